@@ -1,0 +1,6 @@
+-- What a read past the end of a list of records gives.
+use Rattle.row.specs.declared.Cell.{Cell}
+
+-- the record of zeros
+abbrev pub no-cell : Cell
+no-cell = record { number = 0; wanted = record { line = 0; site = 0 }; width = 0; weight = 0 }

@@ -1,0 +1,3 @@
+pub mod Checked
+pub mod Records
+pub mod Refusals
