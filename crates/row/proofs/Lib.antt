@@ -1,1 +1,7 @@
+pub mod Accepted
 pub mod Defaults
+pub mod Instance
+pub mod Least
+pub mod Ranges
+pub mod Rises
+pub mod Theory

@@ -1,5 +1,6 @@
 // Cells and rows, wanted order, and `set`, which sets one row of cells.
 mod check;
+mod cluster;
 
 // A site on a line.
 #[derive(Clone, Copy, PartialEq, Eq, Debug)]
