@@ -11,11 +11,11 @@ use Rattle.std.specs.shelf.Lists.{All}
 use Rattle.measure.specs.Costs.{Fair}
 use Rattle.row.specs.Clusters.{Cluster, push, settle, laid}
 use Rattle.row.specs.Records.{widths}
-use Rattle.row.specs.Sites.{abut, sites-cost, cluster-rise, climbs, least, best-site, row-clusters, row-sites}
+use Rattle.row.specs.Sites.{abut, sites-cost, cluster-rise, climbs, least, best-site, reach as reaches, row-clusters, row-sites}
 use Rattle.row.specs.Stack.{Passes}
 use Rattle.row.specs.declared.Cell.{Cell}
 use Rattle.row.specs.declared.Row.{Row}
-use Rattle.row.proofs.Least.{IsLeast, least-is}
+use Rattle.row.proofs.Least.{IsLeast, least-is, least-unique, narrowed}
 use Rattle.row.proofs.Ranges.{ranged}
 use Rattle.row.proofs.Rises.{in-ranges}
 use Rattle.row.proofs.Theory.Packed.{Lane, next, span, packed, reach, sites, cost, Bends, AllBend, Tight}
@@ -73,6 +73,12 @@ module _ (f : ℕ → ℕ → ℕ → ℕ) (row : Row) where
   pub best-least : (cs : List Cell) → row .left + widths cs ≤ row .right → IsLeast (climbs f cs) (row .left) (row .right - widths cs) (best-site f row cs)
   best-least cs room = least-is (row .left) (row .right - widths cs - row .left) (row .right - widths cs) (omega arith)
 
+  -- a search between any two ends that hold the best site finds it
+  pub best-narrowed : (cs : List Cell) (low high : ℕ) → row .left + widths cs ≤ row .right → row .left ≤ low → low ≤ best-site f row cs → best-site f row cs ≤ high → high ≤ row .right - widths cs → least (climbs f cs) low (high - low) ≡ best-site f row cs
+  best-narrowed cs low high room from below above to =
+      least-unique low high _ _ (least-is low (high - low) high (omega arith))
+      (narrowed (row .left) (row .right - widths cs) low high (best-site f row cs) (best-least cs room) from below above to)
+
   pub best-is : (cs : List Cell) → row .left + span R cs ≤ row .right → IsBest R cs (best-site f row cs)
   best-is cs room =
       let wide = span-is cs in
@@ -95,11 +101,11 @@ module _ (f : ℕ → ℕ → ℕ → ℕ) (row : Row) where
   all-bend fair right [] passed = tt
   all-bend fair right (c ∷ cs) passed = (bends fair right c (passed .0), all-bend fair right cs (passed .1))
 
-  reach-same : (λ (front back : List Cell). widths front) ≡ reach R
+  reach-same : reaches ≡ reach R
   reach-same = fun-ext (λ front. fun-ext (λ back. sym (reach-is front back)))
 
   -- the clusters and the sites of a row are those of the theory
-  pub push-is : (k : Cluster Cell) (stack : List (Cluster Cell)) → push (λ front back. widths front) (best-site f row) k stack ≡ push (reach R) (best-site f row) k stack
+  pub push-is : (k : Cluster Cell) (stack : List (Cluster Cell)) → push reaches (best-site f row) k stack ≡ push (reach R) (best-site f row) k stack
   push-is k stack = ap (λ r. push r (best-site f row) k stack) reach-same
 
   pub clusters-are : (cells : List Cell) → row-clusters f row cells ≡ settle (reach R) (best-site f row) cells []

@@ -2,6 +2,9 @@ pub mod Accepted
 pub mod Defaults
 pub mod Instance
 pub mod Least
+pub mod Parts
 pub mod Ranges
 pub mod Rises
+pub mod Stacked
+pub mod Subject
 pub mod Theory

@@ -3,6 +3,7 @@
 --   cluster-rise      the rise of abutting cells: the sum of their rises at the sites that they have
 --   least             the least of some places that passes a test, or the last of them
 --   best-site         where a cluster stands best: the least site that is the last one or has a rise of at least 0
+--   reach             from the start of a cluster to where the next may start
 --   row-clusters      the clusters of a row, by joining (see Clusters)
 --   row-sites         the sites of a row's cells
 --   sites-cost        the cost of cells at sites
@@ -46,9 +47,13 @@ least test x (suc n) = cond (test x) x (least test (x + 1) n)
 abbrev pub best-site : (ℕ → ℕ → ℕ → ℕ) → Row → List Cell → ℕ
 best-site price row cs = least (climbs price cs) (row .left) (row .right - widths cs - row .left)
 
--- the clusters of a row, the last first: a cluster ends its width after its site
+-- from the start of a cluster to where the next may start: its width
+abbrev pub reach : List Cell → List Cell → ℕ
+reach front back = widths front
+
+-- the clusters of a row, the last first
 abbrev pub row-clusters : (ℕ → ℕ → ℕ → ℕ) → Row → List Cell → List (Cluster Cell)
-row-clusters price row cells = settle (λ front back. widths front) (best-site price row) cells []
+row-clusters price row cells = settle reach (best-site price row) cells []
 
 -- the sites of a row's cells: the cells of each cluster abut from its site
 abbrev pub row-sites : (ℕ → ℕ → ℕ → ℕ) → Row → List Cell → List ℕ
