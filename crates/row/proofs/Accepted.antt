@@ -48,10 +48,11 @@ ordered last (c ∷ cs) e =
     let parts = both _ _ e in
     let own = both _ _ (parts .0) in
     let after : before last c ≡ true = passed _ _ _ (own .1) .0 in
-    let others = ordered c cs (parts .1) in
-    ((unmapped _ _ (own .0), others .0),
-     (after, all-weaker (λ d. before c d ≡ true) (λ d. before last d ≡ true) (λ d next. before-trans last c d after next) cs (others .1)),
-     (others .1, others .2))
+    let others = ordered c cs (parts .1) in (
+      (unmapped _ _ (own .0), others .0),
+      (after, all-weaker (λ d. before c d ≡ true) (λ d. before last d ≡ true) (λ d next. before-trans last c d after next) cs (others .1)),
+      (others .1, others .2),
+    )
 
 all-ordered : (cs : List Cell) → cells-refusal None cs ≡ None → All Passes cs × EveryPair (λ c d. before c d ≡ true) cs
 all-ordered [] e = (tt, tt)
@@ -87,5 +88,5 @@ accepted row cells count e =
       each = eqb-true _ _ (size .1);
       pass = cs .0;
       order = cs .1;
-      room = omega arith
+      room = omega arith;
     }

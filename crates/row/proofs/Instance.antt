@@ -87,7 +87,7 @@ module _ (f : ℕ → ℕ → ℕ → ℕ) (row : Row) where
         from = is .from;
         to = omega (arith, is .upto);
         falls = λ t u at below e. let down = falling cs t u e (is .none t at below) in omega arith;
-        climbs = λ u below e. let up = climbing cs (best-site f row cs) u e (is .passes (omega arith)) in omega arith
+        climbs = λ u below e. let up = climbing cs (best-site f row cs) u e (is .passes (omega arith)) in omega arith;
       }
 
   -- cells that pass their checks bend

@@ -21,7 +21,7 @@ module _ {test : ℕ → Bool} where
     from = omega (arith, rest .from);
     upto = rest .upto;
     none = λ t from below. ⊎-elim (λ is. ap test (sym is) ∙ fails) (⊎-elim (λ after. rest .none t (omega arith) below) (λ before. absurd (omega arith))) (cases-order low t);
-    passes = rest .passes
+    passes = rest .passes;
   }
 
   -- a place that passes is the least
@@ -41,8 +41,8 @@ module _ {test : ℕ → Bool} where
   least-unique low high y z a b =
       ⊎-elim (λ is. is)
       (⊎-elim
-        (λ below. absurd (both-ways (test y) (b .none y (a .from) below) (a .passes (omega (arith, b .upto)))))
-        (λ above. absurd (both-ways (test z) (a .none z (b .from) above) (b .passes (omega (arith, a .upto))))))
+      (λ below. absurd (both-ways (test y) (b .none y (a .from) below) (a .passes (omega (arith, b .upto)))))
+      (λ above. absurd (both-ways (test z) (a .none z (b .from) above) (b .passes (omega (arith, a .upto))))))
       (cases-order y z)
 
   -- it is the least of fewer places too
@@ -51,7 +51,7 @@ module _ {test : ℕ → Bool} where
     from = from;
     upto = upto;
     none = λ t at below. a .none t (omega arith) below;
-    passes = λ below. a .passes (omega arith)
+    passes = λ below. a .passes (omega arith);
   }
 
   -- where a place passes, it is not further on

@@ -1,5 +1,6 @@
 pub mod Accepted
 pub mod Defaults
+pub mod Finished
 pub mod Instance
 pub mod Least
 pub mod Parts
@@ -8,3 +9,4 @@ pub mod Rises
 pub mod Stacked
 pub mod Subject
 pub mod Theory
+pub mod Writes

@@ -70,7 +70,7 @@ part-known {row} {cells} {count} accepted a b =
     record {
       few = omega (arith, accepted .few);
       pass = all-take Passes (b - a) (drop a cells) (all-drop Passes a cells (accepted .pass));
-      room = omega (arith, accepted .room)
+      room = omega (arith, accepted .room);
     }
 
 -- two runs that follow one another cover a part, and together its width

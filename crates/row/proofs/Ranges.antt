@@ -42,7 +42,7 @@ ranged c e =
       width = leb-true _ _ (b .1);
       some-weight = leb-true _ _ (e .0);
       weight = leb-true _ _ (e .1);
-      number = leb-true _ _ (number .0)
+      number = leb-true _ _ (number .0);
     }
 
 -- the fields of a row within their ranges

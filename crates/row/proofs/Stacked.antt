@@ -1,20 +1,20 @@
 -- The clusters that the program keeps, and the stack of the theory.
 use mathlib.Core.Bool.{true, false, cond}
-use mathlib.Core.List.{List, [], _∷_, _++_, map, reverse}
+use mathlib.Core.List.{List, [], _∷_, _++_, map, reverse, append-assoc}
 use mathlib.Core.Path.{_≡_, refl, sym, ap, subst, _∙_}
-use Prim.Native.Nat.{ℕ, _+_, _≤_, _<_}
+use Prim.Native.Nat.{ℕ, _+_, _-_, _≤_, _<_}
 use native.Mathlib.Omega.{arith}
 use lib.Dec.{ltb}
 use lib.ListN.{length, take, drop, getD, set}
 use Rattle.std.proofs.shelf.Edits.{length-between}
 use Rattle.std.proofs.shelf.Elements.{all-take, all-getD}
-use Rattle.std.proofs.shelf.Lists.{take-more, take-more-set, reverse-append, length-reverse, length-take-le, length-set}
+use Rattle.std.proofs.shelf.Lists.{take-more, take-more-set, reverse-append, length-reverse, length-take-le, length-set, drop-at}
 use Rattle.std.proofs.shelf.Tests.{cond-true, cond-false, lt-ltb, le-ltb}
 use Rattle.std.specs.shelf.Lists.{between}
 use Rattle.measure.specs.Costs.{Fair}
-use Rattle.row.specs.Clusters.{Cluster, at-best, push, settle}
+use Rattle.row.specs.Clusters.{Cluster, at-best, push, settle, laid}
 use Rattle.row.specs.Records.{widths}
-use Rattle.row.specs.Sites.{best-site, reach as reaches, row-clusters}
+use Rattle.row.specs.Sites.{abut, best-site, reach as reaches, row-clusters}
 use Rattle.row.specs.Stack.{Passes, part, cluster-of, stack-of, Spans, AtBest, Follows, Bracketed, Tiled, Holds}
 use Rattle.row.specs.declared.Cell.{Cell}
 use Rattle.row.specs.declared.Row.{Row}
@@ -85,6 +85,14 @@ pub record Pushing (f : ℕ → ℕ → ℕ → ℕ) (row : Row) (cells : List C
   pub sound : Sound (lane f row) (stack-of cells (take count runs))
   pub comes : push reaches (best-site f row) (cluster-of cells last) (stack-of cells (take count runs)) ≡ row-clusters f row (take past cells)
 
+-- the last cluster is put on top of the others as it is
+abbrev pub Rests : (ℕ → ℕ → ℕ → ℕ) → Row → List Cell → List Run → ℕ → Run → Type 0
+Rests f row cells runs count last = push reaches (best-site f row) (cluster-of cells last) (stack-of cells (take count runs)) ≡ cluster-of cells last ∷ stack-of cells (take count runs)
+
+-- so it is where there are none
+pub rests-alone : (f : ℕ → ℕ → ℕ → ℕ) (row : Row) (cells : List Cell) (runs : List Run) (count : ℕ) (last : Run) → count ≡ 0 → Rests f row cells runs count last
+rests-alone f row cells runs count last none = subst (λ n. Rests f row cells runs n last) (sym none) refl
+
 module _ (f : ℕ → ℕ → ℕ → ℕ) (row : Row) (cells : List Cell) (n : ℕ) (fair : Fair f) (a : Accepted row cells n) where
   abbrev R : Lane Cell
   R = lane f row
@@ -97,7 +105,7 @@ module _ (f : ℕ → ℕ → ℕ → ℕ) (row : Row) (cells : List Cell) (n : 
       λ i. record { site = site i; cells = cs i }
 
   -- the clusters of the first cells are sound
-  prefix-sound : (i : ℕ) → Sound R (row-clusters f row (take i cells))
+  pub prefix-sound : (i : ℕ) → Sound R (row-clusters f row (take i cells))
   prefix-sound i =
       let right = a .ranged .right in
       let wide = span-is f row (take i cells) in
@@ -124,24 +132,30 @@ module _ (f : ℕ → ℕ → ℕ → ℕ) (row : Row) (cells : List Cell) (n : 
         sure = subst (λ k. Certified R (k .cells) (k .site)) (sym whole) sure;
         sound = subst (Sound R) (sym (h .clusters)) (prefix-sound i);
         comes =
-          ap (λ k. push reaches (best-site f row) k (stack-of cells (take count runs))) whole
-          ∙ ap (push reaches (best-site f row) (at-best reaches (best-site f row) (c ∷ []))) (h .clusters)
-          ∙ sym (ap (row-clusters f row) (take-more cells i no-cell within) ∙ settle-push (best-site f row) (take i cells) c [])
+            ap (λ k. push reaches (best-site f row) k (stack-of cells (take count runs))) whole
+            ∙ ap (push reaches (best-site f row) (at-best reaches (best-site f row) (c ∷ []))) (h .clusters)
+            ∙ sym (ap (row-clusters f row) (take-more cells i no-cell within) ∙ settle-push (best-site f row) (take i cells) c []);
       }
 
-  -- what is known where the cluster before the last one, with index i, ends past the last one's site
-  module _ (past : ℕ) (runs : List Run) (i : ℕ) (last : Run) (within : past ≤ length cells) (p : Pushing f row cells past runs (i + 1) last) where
+  -- what is known where there is a cluster before the last one
+  module _ (past : ℕ) (runs : List Run) (count : ℕ) (last : Run) (within : past ≤ length cells) (some : 0 < count) (p : Pushing f row cells past runs count last) where
+    abbrev i : ℕ
+    i = count - 1
+
     abbrev b : Run
     b = getD runs i no-run
 
     inside : i < length runs
     inside = omega (arith, p .few)
 
-    tiled-top : Tiled cells (last .first) (b ∷ reverse (take i runs))
-    tiled-top = subst (Tiled cells (last .first)) (top-run runs i (i + 1) refl inside) (p .tiled)
+    counted : count ≡ i + 1
+    counted = omega arith
 
-    stack-top : stack-of cells (take (i + 1) runs) ≡ cluster-of cells b ∷ stack-of cells (take i runs)
-    stack-top = ap (map (cluster-of cells)) (top-run runs i (i + 1) refl inside)
+    tiled-top : Tiled cells (last .first) (b ∷ reverse (take i runs))
+    tiled-top = subst (Tiled cells (last .first)) (top-run runs i count counted inside) (p .tiled)
+
+    stack-top : stack-of cells (take count runs) ≡ cluster-of cells b ∷ stack-of cells (take i runs)
+    stack-top = ap (map (cluster-of cells)) (top-run runs i count counted inside)
 
     sound-top : Sound R (cluster-of cells b ∷ stack-of cells (take i runs))
     sound-top = subst (Sound R) stack-top (p .sound)
@@ -158,7 +172,7 @@ module _ (f : ℕ → ℕ → ℕ → ℕ) (row : Row) (cells : List Cell) (n : 
     follows = record {
       one = tiled-top .0;
       two = record { starts = p .spans .starts; ends = refl; wide = p .spans .wide };
-      ends = omega (arith, p .spans .ends)
+      ends = omega (arith, p .spans .ends);
     }
 
     joined-cells : part cells b ++ part cells last ≡ between (b .first) (last .past) cells
@@ -210,14 +224,14 @@ module _ (f : ℕ → ℕ → ℕ → ℕ) (row : Row) (cells : List Cell) (n : 
             sure = subst (λ k. Certified R (k .cells) (k .site)) (sym whole) sure;
             sound = sound-top .1;
             comes =
-              ap (λ k. push reaches (best-site f row) k rest) whole
-              ∙ sym (cond-true (ltb (last .site) (b .site + widths (part cells b))) (push reaches (best-site f row) (at-best reaches (best-site f row) both) rest) (cluster-of cells last ∷ cluster-of cells b ∷ rest) test)
-              ∙ sym (ap (push reaches (best-site f row) (cluster-of cells last)) stack-top)
-              ∙ p .comes
+                ap (λ k. push reaches (best-site f row) k rest) whole
+                ∙ sym (cond-true (ltb (last .site) (b .site + widths (part cells b))) (push reaches (best-site f row) (at-best reaches (best-site f row) both) rest) (cluster-of cells last ∷ cluster-of cells b ∷ rest) test)
+                ∙ sym (ap (push reaches (best-site f row) (cluster-of cells last)) stack-top)
+                ∙ p .comes;
           }
 
     -- where it does not overlap, it is put on top
-    pub rests : b .site + b .width ≤ last .site → push reaches (best-site f row) (cluster-of cells last) (stack-of cells (take (i + 1) runs)) ≡ cluster-of cells last ∷ stack-of cells (take (i + 1) runs)
+    pub rests : b .site + b .width ≤ last .site → Rests f row cells runs count last
     rests clear =
         let rest = stack-of cells (take i runs) in
         let both : List Cell = part cells b ++ part cells last in
@@ -227,7 +241,7 @@ module _ (f : ℕ → ℕ → ℕ → ℕ) (row : Row) (cells : List Cell) (n : 
         ∙ sym (ap (λ s. cluster-of cells last ∷ s) stack-top)
 
   -- the last cluster written behind those that it rests on
-  pub finish : (past : ℕ) (runs : List Run) (count : ℕ) (last : Run) → past ≤ length cells → length cells ≤ length runs → Pushing f row cells past runs count last → push reaches (best-site f row) (cluster-of cells last) (stack-of cells (take count runs)) ≡ cluster-of cells last ∷ stack-of cells (take count runs) → Holds f row cells past (set runs count last) (count + 1)
+  pub finish : (past : ℕ) (runs : List Run) (count : ℕ) (last : Run) → past ≤ length cells → length cells ≤ length runs → Pushing f row cells past runs count last → Rests f row cells runs count last → Holds f row cells past (set runs count last) (count + 1)
   finish past runs count last within room p rested =
       let below = few-runs cells runs count (last .first) (p .few) (p .tiled) in
       let starts = p .spans .starts in
@@ -238,5 +252,27 @@ module _ (f : ℕ → ℕ → ℕ → ℕ) (row : Row) (cells : List Cell) (n : 
       record {
         few = omega arith;
         tiled = subst (Tiled cells past) (sym top) (p .spans, p .tiled);
-        clusters = ap (map (cluster-of cells)) top ∙ sym rested ∙ p .comes
+        clusters = ap (map (cluster-of cells)) top ∙ sym rested ∙ p .comes;
       }
+
+-- The last of the first i runs, where they follow one another up to `past`.
+pub top-spans : (cells : List Cell) (runs : List Run) (i past : ℕ) → 0 < i → i ≤ length runs → Tiled cells past (reverse (take i runs)) → Spans cells past (getD runs (i - 1) no-run) × Tiled cells (getD runs (i - 1) no-run .first) (reverse (take (i - 1) runs))
+top-spans cells runs i past some few tiled = subst (Tiled cells past) (top-run runs (i - 1) i (omega arith) (omega arith)) tiled
+
+-- The sites of the last of the first i runs written before those that are written already.
+pub lay-more : (cells : List Cell) (runs : List Run) (i past : ℕ) (sites whole : List ℕ) → 0 < i → i ≤ length runs → length sites ≡ length cells → past ≤ length cells → Tiled cells past (reverse (take i runs)) → laid abut (stack-of cells (take i runs)) ++ drop past sites ≡ whole →
+    laid abut (stack-of cells (take (i - 1) runs))
+    ++ drop (getD runs (i - 1) no-run .first) (take (getD runs (i - 1) no-run .first) sites ++ (abut (part cells (getD runs (i - 1) no-run)) (getD runs (i - 1) no-run .site) ++ drop (getD runs (i - 1) no-run .past) sites)) ≡ whole
+lay-more cells runs i past sites whole some few each within tiled rest =
+    let k : Run = getD runs (i - 1) no-run in
+    let own = top-spans cells runs i past some few tiled .0 in
+    let before : List ℕ = laid abut (stack-of cells (take (i - 1) runs)) in
+    let here : List ℕ = abut (part cells k) (k .site) in
+    let starts = own .starts in
+    let ends = own .ends in
+    let short : length (take (k .first) sites) ≡ k .first = length-take-le (k .first) sites (omega arith) in
+    let top : laid abut (stack-of cells (take i runs)) ≡ before ++ here = ap (λ l. laid abut (map (cluster-of cells) l)) (top-run runs (i - 1) i (omega arith) (omega arith)) in
+    ap (λ l. before ++ l) (drop-at (take (k .first) sites) (here ++ drop (k .past) sites) (k .first) short ∙ ap (λ n. here ++ drop n sites) ends)
+    ∙ sym (append-assoc before here (drop past sites))
+    ∙ sym (ap (λ l. l ++ drop past sites) top)
+    ∙ rest

@@ -94,16 +94,17 @@ module _ (f : ℕ → ℕ → ℕ → ℕ) (row : Row) where
   chain-rises (c ∷ cs) [] lo passed order chain = tt
   chain-rises (c ∷ cs) (y ∷ ys) lo passed order chain =
       let p : Placed = record { cell = c; site = y } in
-      let first = all-placed (λ d. before c d ≡ true) cs ys (order .0) in
-      (all-with (λ q. y + c .width ≤ q .site) (λ q. before c (q .cell) ≡ true) (Rising p) (λ q. rising-after p q (wide c (passed .0))) (placed cs ys) (ends c cs y ys (chain .2)) first,
-       chain-rises cs ys (y + next R c cs) (passed .1) (order .1) (chain .2))
+      let first = all-placed (λ d. before c d ≡ true) cs ys (order .0) in (
+        all-with (λ q. y + c .width ≤ q .site) (λ q. before c (q .cell) ≡ true) (Rising p) (λ q. rising-after p q (wide c (passed .0))) (placed cs ys) (ends c cs y ys (chain .2)) first,
+        chain-rises cs ys (y + next R c cs) (passed .1) (order .1) (chain .2),
+      )
 
   -- a legal chain of cells in wanted order is a setting
   pub chain-setting : (cs : List Cell) (ys : List ℕ) → All Passes cs → EveryPair (λ c d. before c d ≡ true) cs → Chain R (row .left) cs ys → Setting row cs ys
   chain-setting cs ys passed order chain = record {
     each = chain-length cs ys (row .left) chain;
     legal = (chain-within cs ys (row .left) (omega arith) chain, chain-clear cs ys (row .left) chain);
-    in-order = chain-rises cs ys (row .left) passed order chain
+    in-order = chain-rises cs ys (row .left) passed order chain;
   }
 
   -- and a setting of cells in wanted order is a legal chain
@@ -117,9 +118,9 @@ module _ (f : ℕ → ℕ → ℕ → ℕ) (row : Row) where
       let n = next-is f row c cs in
       let both = all-with (Clear p) (Rising p) (λ q. Clear p q × Rising p q) (λ q a b. (a, b)) rest (legal .1 .0) (rises .0) in
       let known = all-with (λ q. before c (q .cell) ≡ true) (λ q. 1 ≤ q .cell .width) (λ q. (before c (q .cell) ≡ true) × (1 ≤ q .cell .width)) (λ q a b. (a, b)) rest
-        (all-placed (λ d. before c d ≡ true) cs ys (order .0)) (all-placed (λ d. 1 ≤ d .width) cs ys (all-weaker Passes (λ d. 1 ≤ d .width) wide cs (passed .1))) in
+      (all-placed (λ d. before c d ≡ true) cs ys (order .0)) (all-placed (λ d. 1 ≤ d .width) cs ys (all-weaker Passes (λ d. 1 ≤ d .width) wide cs (passed .1))) in
       let after = all-with (λ q. Clear p q × Rising p q) (λ q. (before c (q .cell) ≡ true) × (1 ≤ q .cell .width)) (λ q. y + next R c cs ≤ q .site)
-        (λ q a b. let h = after-clear p q (b .1) (a .0) (a .1) (b .0) in omega arith) rest both known in
+      (λ q a b. let h = after-clear p q (b .1) (a .0) (a .1) (b .0) in omega arith) rest both known in
       (from .0, legal .0 .0 .1, setting-chain-from cs ys (y + next R c cs) (omega arith) (passed .1) (order .1) (legal .0 .1, legal .1 .1) (rises .1) after)
 
   pub setting-chain : (cs : List Cell) (ys : List ℕ) → All Passes cs → EveryPair (λ c d. before c d ≡ true) cs → Setting row cs ys → Chain R (row .left) cs ys
@@ -152,10 +153,10 @@ module _ (f : ℕ → ℕ → ℕ → ℕ) (row : Row) where
       record {
         setting = setting;
         cheapest = λ zs other.
-          let least = answer .cheapest zs (setting-chain cells zs (a .pass) (a .order) other) in
-          let cost-of-zs = cost-is f row cells zs in
-          omega arith;
+            let least = answer .cheapest zs (setting-chain cells zs (a .pass) (a .order) other) in
+            let cost-of-zs = cost-is f row cells zs in
+            omega arith;
         leftmost = λ zs other same.
-          let cost-of-zs = cost-is f row cells zs in
-          each-from cells ys zs (setting .each) (other .each) (answer .leftmost zs (setting-chain cells zs (a .pass) (a .order) other) (omega arith))
+            let cost-of-zs = cost-is f row cells zs in
+            each-from cells ys zs (setting .each) (other .each) (answer .leftmost zs (setting-chain cells zs (a .pass) (a .order) other) (omega arith));
       }

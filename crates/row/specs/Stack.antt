@@ -5,6 +5,7 @@
 --   cluster-of       a run as a cluster
 --   stack-of         runs as clusters, the last one first
 --   Tiled            runs that follow one another from the first cell on, each with its width
+--   InPlaces         a run that ends within the places, which go up to 65,535
 --   Holds            the first runs of a table are the clusters of a row's first cells
 use mathlib.Core.List.{List, [], _∷_, map, reverse}
 use mathlib.Core.Path.{_≡_}
@@ -58,6 +59,10 @@ pub record Follows (cells : List Cell) (b k : Run) : Type 0 where
 pub record Bracketed (price : ℕ → ℕ → ℕ → ℕ) (row : Row) (cells : List Cell) (b k : Run) : Type 0 where
   pub not-after : best-site price row (between (b .first) (k .past) cells) ≤ b .site
   pub not-before : k .site ≤ best-site price row (between (b .first) (k .past) cells) + b .width
+
+-- a run that ends within the places
+abbrev pub InPlaces : Run → Type 0
+InPlaces k = k .site + k .width ≤ 65535
 
 -- runs, the last one first, that follow one another from the first cell up to `past`
 abbrev pub Tiled : List Cell → ℕ → List Run → Type 0

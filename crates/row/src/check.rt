@@ -85,7 +85,8 @@ impl Cell {
     pub fn is_before(&self, other: &Cell) -> bool
         ensures { λ r. ⌜ r ≡ before (now (self .entry)) (now (other .entry)) ⌝ }
     {
-        self.wanted.site < other.wanted.site || self.wanted.site == other.wanted.site && self.number < other.number
+        self.wanted.site < other.wanted.site
+            || self.wanted.site == other.wanted.site && self.number < other.number
     }
 }
 

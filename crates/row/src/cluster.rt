@@ -19,6 +19,16 @@ pub(crate) struct Cluster {
     pub(crate) width: u32,
 }
 
+impl Cluster {
+    // No cells.
+    pub(crate) const NONE: Cluster = Cluster {
+        first: 0,
+        past: 0,
+        site: 0,
+        width: 0,
+    };
+}
+
 // The rise of cells that abut from `start` on.
 fn rise_of<M: Measure>(measure: &M, cells: &[Cell], start: u32) -> i64
     requires few { ⌜ length (now cells) ≤ 1024 ⌝ }
@@ -65,11 +75,22 @@ fn alone<M: Measure>(measure: &M, row: Row, cells: &[Cell], first: usize) -> Clu
     let past = first + 1;
     let width = cells[first].width;
     let site = best_between(measure, &cells[first..past], row.left, row.right - width);
-    Cluster { first, past, site, width }
+    Cluster {
+        first,
+        past,
+        site,
+        width,
+    }
 }
 
 // Two clusters that follow one another as one, at its best site.
-fn joined<M: Measure>(measure: &M, row: Row, cells: &[Cell], before: Cluster, last: Cluster) -> Cluster
+fn joined<M: Measure>(
+    measure: &M,
+    row: Row,
+    cells: &[Cell],
+    before: Cluster,
+    last: Cluster,
+) -> Cluster
     requires ready { ⌜ Ready row (now cells) ⌝ }
     requires follows { ⌜ Follows (now cells) before last ⌝ }
     requires bracketed { ⌜ Bracketed (price (now measure)) row (now cells) before last ⌝ }
@@ -81,11 +102,23 @@ fn joined<M: Measure>(measure: &M, row: Row, cells: &[Cell], before: Cluster, la
     let low = row.left.max(last.site.saturating_sub(before.width));
     let high = before.site.min(row.right - width);
     let site = best_between(measure, &cells[first..past], low, high);
-    Cluster { first, past, site, width }
+    Cluster {
+        first,
+        past,
+        site,
+        width,
+    }
 }
 
 // Takes the cell at `first`: it is joined to the clusters before it while it starts before their end. Answers how many clusters there are then.
-fn add<M: Measure>(measure: &M, row: Row, cells: &[Cell], first: usize, clusters: &mut [Cluster], count: usize) -> usize
+fn add<M: Measure>(
+    measure: &M,
+    row: Row,
+    cells: &[Cell],
+    first: usize,
+    clusters: &mut [Cluster],
+    count: usize,
+) -> usize
     requires ready { ⌜ Ready row (now cells) ⌝ }
     requires within { ⌜ first < length (now cells) ⌝ }
     requires room { ⌜ length (now cells) ≤ length (now clusters) ⌝ }
@@ -100,4 +133,22 @@ fn add<M: Measure>(measure: &M, row: Row, cells: &[Cell], first: usize, clusters
     }
     clusters[count] = last;
     count + 1
+}
+
+// Settles a row's cells: fills `clusters` from its first on, and answers how many there are.
+pub(crate) fn settle<M: Measure>(
+    measure: &M,
+    row: Row,
+    cells: &[Cell],
+    clusters: &mut [Cluster],
+) -> usize
+    requires ready { ⌜ Ready row (now cells) ⌝ }
+    requires room { ⌜ length (now cells) ≤ length (now clusters) ⌝ }
+    ensures { λ r. ⌜ Holds (price (now (measure .entry))) row (now (cells .entry)) (length (now (cells .entry))) (now (clusters .exit)) r ⌝ }
+{
+    let mut count = 0;
+    for first in 0..cells.len() {
+        count = add(measure, row, cells, first, clusters, count);
+    }
+    count
 }

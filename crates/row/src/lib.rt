@@ -1,6 +1,9 @@
 // Cells and rows, wanted order, and `set`, which sets one row of cells.
 mod check;
 mod cluster;
+mod setting;
+
+pub use setting::set;
 
 // A site on a line.
 #[derive(Clone, Copy, PartialEq, Eq, Debug)]

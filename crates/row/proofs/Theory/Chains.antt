@@ -68,12 +68,13 @@ module _ {A : Type 0} (R : Lane A) where
       let h : Halves n ps ss zs = halves tight ps ss n zs (chain .2) in
       let start = chain .0 in
       let wider = next-longer R tight p ps ss in
-      record
-        { first = z ∷ h .first
-        ; second = h .second
-        ; parts = ap (λ l. z ∷ l) (h .parts)
-        ; one = (start, chain .1, chain-lower ps (h .first) n (z + next R p ps) (omega arith) (h .one))
-        ; two = chain-lower ss (h .second) n lo (omega arith) (h .two) }
+      record {
+        first = z ∷ h .first;
+        second = h .second;
+        parts = ap (λ l. z ∷ l) (h .parts);
+        one = (start, chain .1, chain-lower ps (h .first) n (z + next R p ps) (omega arith) (h .one));
+        two = chain-lower ss (h .second) n lo (omega arith) (h .two);
+      }
 
   -- the cost of two parts
   pub cost-append : (ps ss : List A) (ys zs : List ℕ) (lo : ℕ) → Chain R lo ps ys → cost R (ps ++ ss) (ys ++ zs) ≡ cost R ps ys + cost R ss zs

@@ -21,9 +21,9 @@ module _ {A : Type 0} (reach' : List A → List A → ℕ) (best : List A → �
   push-cells k (b ∷ rest) =
       let both : List A = b .cells ++ k .cells in
       cond-both (ltb (k .site) (b .site + reach' (b .cells) (k .cells))) (push reach' best (at-best reach' best both) rest) (k ∷ b ∷ rest)
-        (λ stack. cells-of stack ≡ cells-of rest ++ b .cells ++ k .cells)
-        (λ _. push-cells (at-best reach' best both) rest ∙ sym (append-assoc (cells-of rest) (b .cells) (k .cells)))
-        (λ _. refl)
+      (λ stack. cells-of stack ≡ cells-of rest ++ b .cells ++ k .cells)
+      (λ _. push-cells (at-best reach' best both) rest ∙ sym (append-assoc (cells-of rest) (b .cells) (k .cells)))
+      (λ _. refl)
 
   -- and so does settling
   pub settle-cells : (cs : List A) (stack : List (Cluster A)) → cells-of (settle reach' best cs stack) ≡ cells-of stack ++ cs
@@ -59,14 +59,14 @@ module _ {A : Type 0} (R : Lane A) where
         let below : Stands rest b = sound .0 in
         let group : cells-of rest ++ b .cells ++ k .cells ≡ cells-of rest ++ both = append-assoc (cells-of rest) (b .cells) (k .cells) in
         cond-both (ltb (k .site) end) (push (reach R) best (at-best (reach R) best both) rest) (k ∷ b ∷ rest) Sound
-          (λ test.
-            let overlap = ltb-true (k .site) end test in
-            let all-bend : AllBend R (cells-of rest ++ both) = rw group at bend in
-            let all-room : R .low + span R (cells-of rest ++ both) ≤ R .high = rw group at room in
-            let length = span-append R (cells-of rest) both in
-            let joined = join R (below .some) some (below .sure) sure (omega arith) (best-is both (omega arith)) tight small (bend-back R (cells-of rest) both all-bend) in
-            push-sound (at-best (reach R) best both) rest (some-append (b .cells) (k .cells) (below .some)) joined (sound .1) all-bend all-room)
-          (λ test. (record { some = some; sure = sure; clear = ltb-false (k .site) end test }, sound))
+        (λ test.
+        let overlap = ltb-true (k .site) end test in
+        let all-bend : AllBend R (cells-of rest ++ both) = rw group at bend in
+        let all-room : R .low + span R (cells-of rest ++ both) ≤ R .high = rw group at room in
+        let length = span-append R (cells-of rest) both in
+        let joined = join R (below .some) some (below .sure) sure (omega arith) (best-is both (omega arith)) tight small (bend-back R (cells-of rest) both all-bend) in
+        push-sound (at-best (reach R) best both) rest (some-append (b .cells) (k .cells) (below .some)) joined (sound .1) all-bend all-room)
+        (λ test. (record { some = some; sure = sure; clear = ltb-false (k .site) end test }, sound))
 
     -- so do cells settled on it
     pub settle-sound : (cs : List A) (stack : List (Cluster A)) → Sound stack → AllBend R (cells-of stack ++ cs) → R .low + span R (cells-of stack ++ cs) ≤ R .high → Sound (settle (reach R) best cs stack)

@@ -70,8 +70,8 @@ module _ {A : Type 0} (R : Lane A) where
           let u : ℕ = t + (y - v) in
           let parts : xs ≡ (ps ++ (s ∷ [])) ++ ss = e ∙ sym (append-assoc ps (s ∷ []) ss) in
           let further = reach-append R ps (s ∷ []) ss in
-          elim (cases-lt y w)
-            [ inl left ↦
+          elim (cases-lt y w) [
+            | inl left ↦
                 let slide = front-slide ps (s ∷ ss) e (y - v) t u from (omega arith) refl in
                 let rest = front-walk (ps ++ (s ∷ [])) ss parts (some-append ps (s ∷ []) some) ys u (y + next R s ss) (omega arith) (omega arith) (omega arith) (chain .2) in
                 let one-more = packed-part R ps (s ∷ []) ss u y (omega arith) in
@@ -81,7 +81,8 @@ module _ {A : Type 0} (R : Lane A) where
                 let rest = back-walk ps (s ∷ ss) e (y ∷ ys) x w (omega arith) refl (right, chain .1, chain .2) in
                 let whole = ap (λ l. packed R l x) e in
                 let split = packed-append R ps (s ∷ ss) x w refl in
-                omega arith ]
+                omega arith
+          ]
 
   module _ (small : R .tie ≤ 1) where
     -- a chain that begins left of the cluster costs more, where the first best site is taken
@@ -95,9 +96,10 @@ module _ {A : Type 0} (R : Lane A) where
     cluster-cheapest [] sure ys chain = omega arith
     cluster-cheapest (c ∷ cs) sure [] chain = absurd chain
     cluster-cheapest (c ∷ cs) {x} sure (y ∷ ys) chain =
-        elim (cases-lt y x)
-          [ inl left ↦ let lose = chain-loses c cs x sure y ys chain left in omega arith
-          | inr right ↦ back-walk sure [] (c ∷ cs) refl (y ∷ ys) x x (omega arith) (omega arith) (right, chain .1, chain .2) ]
+        elim (cases-lt y x) [
+          | inl left ↦ let lose = chain-loses c cs x sure y ys chain left in omega arith
+          | inr right ↦ back-walk sure [] (c ∷ cs) refl (y ∷ ys) x x (omega arith) (omega arith) (right, chain .1, chain .2)
+        ]
 
   -- no chain that is as cheap is further left, where the first best site is taken
   pub cluster-leftmost : R .tie ≡ 0 → (xs : List A) {x : ℕ} → Certified R xs x → (ys : List ℕ) → Chain R (R .low) xs ys → cost R xs ys ≤ packed R xs x → NotRight (sites R xs x) ys
@@ -105,7 +107,8 @@ module _ {A : Type 0} (R : Lane A) where
   cluster-leftmost first (c ∷ cs) sure [] chain cheap = tt
   cluster-leftmost first (c ∷ cs) {x} sure (y ∷ ys) chain cheap =
       let right : x ≤ y =
-            elim (cases-lt y x)
-              [ inl left ↦ let lose = chain-loses (omega arith) c cs x sure y ys chain left in omega arith
-              | inr right ↦ right ] in
+      elim (cases-lt y x) [
+        | inl left ↦ let lose = chain-loses (omega arith) c cs x sure y ys chain left in omega arith
+        | inr right ↦ right
+      ] in
       chain-forces R (c ∷ cs) (y ∷ ys) x (right, chain .1, chain .2)

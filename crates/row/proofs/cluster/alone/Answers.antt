@@ -33,5 +33,5 @@ returns g c =
     record {
       begins = refl;
       spans = record { starts = omega arith; ends = refl; wide = omega arith };
-      best = c .best-between-site .ensures ∙ best-narrowed f (c .args .row) (between (c .args .first) (c .args .first + 1) (c .args .cells .now)) _ _ (known .room) (omega arith) (best .from) (omega (arith, best .upto)) (omega arith)
+      best = c .best-between-site .ensures ∙ best-narrowed f (c .args .row) (between (c .args .first) (c .args .first + 1) (c .args .cells .now)) _ _ (known .room) (omega arith) (best .from) (omega (arith, best .upto)) (omega arith);
     }

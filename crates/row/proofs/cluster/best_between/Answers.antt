@@ -32,5 +32,5 @@ loop-from-again g c =
     let fails : test middle ≡ false = tested (c .rise-of .result) _ false (c .rise-of .ok) (c .rise-of .ensures) (c .if-rise-of-ge0 .left) in
     let fair = g .M·Measure·met .fair (c .args .measure .now) in
     let further : middle < least test (c .args .low) (c .args .high - c .args .low) =
-      after from to middle _ inv (omega arith) fails (λ t u at up below. climbs-on fair cells t u (c .pre .passed) up (omega arith)) in
+    after from to middle _ inv (omega arith) fails (λ t u at up below. climbs-on fair cells t u (c .pre .passed) up (omega arith)) in
     (narrowed from to (middle + 1) to _ inv (omega arith) (omega arith) (inv .upto) (omega arith), c .loop-from .inv .1)

@@ -46,5 +46,5 @@ returns g c =
     record {
       begins = refl;
       spans = record { starts = omega arith; ends = refl; wide = omega arith };
-      best = c .best-between-site .ensures ∙ best-narrowed f (c .args .row) cs (c .max-low .result) (c .min-high .result) (known .room) (omega arith) (omega (arith, best .from)) (omega (arith, best .upto)) (omega arith)
+      best = c .best-between-site .ensures ∙ best-narrowed f (c .args .row) cs (c .max-low .result) (c .min-high .result) (known .room) (omega arith) (omega (arith, best .from)) (omega (arith, best .upto)) (omega arith);
     }
