@@ -57,7 +57,8 @@ fn best_between<M: Measure>(measure: &M, cells: &[Cell], low: u32, high: u32) ->
     let mut to = high;
     while from < to {
         let middle = from + (to - from) / 2;
-        if rise_of(measure, cells, middle) >= 0 {
+        let climbs = rise_of(measure, cells, middle) >= 0;
+        if climbs {
             to = middle;
         } else {
             from = middle + 1;
@@ -74,7 +75,8 @@ fn alone<M: Measure>(measure: &M, row: Row, cells: &[Cell], first: usize) -> Clu
 {
     let past = first + 1;
     let width = cells[first].width;
-    let site = best_between(measure, &cells[first..past], row.left, row.right - width);
+    let last = row.right - width;
+    let site = best_between(measure, &cells[first..past], row.left, last);
     Cluster {
         first,
         past,

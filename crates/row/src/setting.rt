@@ -8,8 +8,8 @@ ghost use Rattle.std.specs.shelf.Lists.{All};
 ghost use Rattle.row.specs.Clusters.{laid};
 ghost use Rattle.row.specs.Records.{widths};
 ghost use Rattle.row.specs.Settings.{Cheapest};
-ghost use Rattle.row.specs.Sites.{abut, sites-cost};
-ghost use Rattle.row.specs.Stack.{Passes, InPlaces, Spans, Tiled, part, stack-of};
+ghost use Rattle.row.specs.Sites.{abut, row-sites, sites-cost};
+ghost use Rattle.row.specs.Stack.{Passes, Ready, InPlaces, Spans, Tiled, part, stack-of};
 ghost use Rattle.row.specs.Task.{set-answer, set-sites};
 use crate::Cell;
 use crate::Refusal;
@@ -72,6 +72,19 @@ fn cost_of<M: Measure>(measure: &M, cells: &[Cell], sites: &[u32]) -> u64
     sum
 }
 
+// Sets a row that passes the checks.
+fn set_checked<M: Measure>(measure: &M, row: Row, cells: &[Cell], sites: &mut [u32]) -> u64
+    requires ready { ⌜ Ready row (now cells) ⌝ }
+    requires each { ⌜ length (now sites) ≡ length (now cells) ⌝ }
+    ensures answer { λ r. ⌜ r ≡ sites-cost (price (now (measure .entry))) (now (cells .entry)) (row-sites (price (now (measure .entry))) row (now (cells .entry))) ⌝ }
+    ensures after { λ r. ⌜ now (sites .exit) ≡ row-sites (price (now (measure .entry))) row (now (cells .entry)) ⌝ }
+{
+    let mut clusters = [Cluster::NONE; 1_024];
+    let count = settle(measure, row, cells, &mut clusters);
+    lay_out(cells, &clusters[0..count], sites);
+    cost_of(measure, cells, sites)
+}
+
 // Sets a row: fills `sites` with the sites of its cells, and answers what they cost.
 // Of all legal settings in wanted order it is the cheapest, and of the cheapest the leftmost.
 pub fn set<M: Measure>(
@@ -85,8 +98,5 @@ pub fn set<M: Measure>(
     ensures cheapest { λ r. ⌜ made r (λ cost. Cheapest (price (now (measure .entry))) row (now (cells .entry)) (now (sites .exit)) × (cost ≡ sites-cost (price (now (measure .entry))) (now (cells .entry)) (now (sites .exit)))) ⌝ }
 {
     check(row, cells, sites.len())?;
-    let mut clusters = [Cluster::NONE; 1_024];
-    let count = settle(measure, row, cells, &mut clusters);
-    lay_out(cells, &clusters[0..count], sites);
-    Ok(cost_of(measure, cells, sites))
+    Ok(set_checked(measure, row, cells, sites))
 }

@@ -9,8 +9,8 @@ use Rattle.row.proofs.Instance.{best-least, best-narrowed}
 use Rattle.row.proofs.Parts.{between-one, part-known}
 use Rattle.row.proofs.cluster.alone.Needs as need
 
-pub sub-row : need.sub-row
-sub-row g c =
+pub sub-last : need.sub-last
+sub-last g c =
     let a = accepted (c .args .row) (c .args .cells .now) _ (c .pre .ready) in
     let known = part-known a (c .args .first) (c .args .first + 1) in
     let one = ap widths (between-one (c .args .cells .now) (c .args .first) no-cell (c .pre .within)) in

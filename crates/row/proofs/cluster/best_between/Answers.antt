@@ -29,7 +29,7 @@ loop-from-again g c =
     let cells = c .args .cells .now in
     let test : ℕ → Bool = climbs (g .M·Measure .price (c .args .measure .now)) cells in
     let inv = c .loop-from .inv .0 in
-    let fails : test middle ≡ false = tested (c .rise-of .result) _ false (c .rise-of .ok) (c .rise-of .ensures) (c .if-rise-of-ge0 .left) in
+    let fails : test middle ≡ false = tested (c .rise-of-climbs .result) _ false (c .rise-of-climbs .ok) (c .rise-of-climbs .ensures) (c .if-climbs .left) in
     let fair = g .M·Measure·met .fair (c .args .measure .now) in
     let further : middle < least test (c .args .low) (c .args .high - c .args .low) =
     after from to middle _ inv (omega arith) fails (λ t u at up below. climbs-on fair cells t u (c .pre .passed) up (omega arith)) in
