@@ -20,7 +20,8 @@ returns g c =
     record {
       answer = ap Ok cost ∙ ap (λ refused. granted refused (sites-cost f cells (row-sites f row cells))) none;
       after = written ∙ ap (λ refused. changed refused (row-sites f row cells) (c .args .sites .now)) none;
-      cheapest =
-        (subst (Cheapest f row cells) (sym written) (row-cheapest f row (g .M·Measure·met .fair (c .args .measure .now)) cells _ (accepted row cells (length (c .args .sites .now)) (sym none))),
-         cost ∙ sym (ap (sites-cost f cells) written))
+      cheapest = (
+        subst (Cheapest f row cells) (sym written) (row-cheapest f row (g .M·Measure·met .fair (c .args .measure .now)) cells _ (accepted row cells (length (c .args .sites .now)) (sym none))),
+        cost ∙ sym (ap (sites-cost f cells) written),
+      );
     }

@@ -18,7 +18,7 @@ lay-out-requires g c κs =
     record {
       each = c .pre .each;
       tiled = tiled-first f (c .args .row) cells _ fair a runs (c .settle-count .result) (c .settle-count .ensures) (c .settle-count .result - 0) (omega arith);
-      inside = in-places f (c .args .row) cells _ fair a runs (c .settle-count .result) (c .settle-count .ensures) (c .settle-count .result - 0) (omega arith)
+      inside = in-places f (c .args .row) cells _ fair a runs (c .settle-count .result) (c .settle-count .ensures) (c .settle-count .result - 0) (omega arith);
     }
 
 pub cost-of-requires : need.cost-of-requires
@@ -28,12 +28,12 @@ cost-of-requires g c κs =
     let f = g .M·Measure .price (c .args .measure .now) in
     let fair = g .M·Measure·met .fair (c .args .measure .now) in
     let written : c .lay-out .last .sites ≡ row-sites f (c .args .row) cells =
-      c .lay-out .ensures ∙ laid-are f (c .args .row) cells _ fair a (c .settle-count .last .clusters) (c .settle-count .result) (c .settle-count .ensures) (c .settle-count .result - 0) (omega arith) in
+    c .lay-out .ensures ∙ laid-are f (c .args .row) cells _ fair a (c .settle-count .last .clusters) (c .settle-count .result) (c .settle-count .ensures) (c .settle-count .result - 0) (omega arith) in
     record {
       few = a .few;
       passed = a .pass;
       each = ap length written ∙ row-each f (c .args .row) cells _ fair a;
-      inside = subst (All (λ x. x ≤ 65535)) (sym written) (row-places f (c .args .row) cells _ fair a)
+      inside = subst (All (λ x. x ≤ 65535)) (sym written) (row-places f (c .args .row) cells _ fair a);
     }
 
 pub returns : need.returns
@@ -43,5 +43,5 @@ returns g c =
     let f = g .M·Measure .price (c .args .measure .now) in
     let fair = g .M·Measure·met .fair (c .args .measure .now) in
     let written : c .lay-out .last .sites ≡ row-sites f (c .args .row) cells =
-      c .lay-out .ensures ∙ laid-are f (c .args .row) cells _ fair a (c .settle-count .last .clusters) (c .settle-count .result) (c .settle-count .ensures) (c .settle-count .result - 0) (omega arith) in
+    c .lay-out .ensures ∙ laid-are f (c .args .row) cells _ fair a (c .settle-count .last .clusters) (c .settle-count .result) (c .settle-count .ensures) (c .settle-count .result - 0) (omega arith) in
     record { answer = c .cost-of .ensures ∙ ap (sites-cost f cells) written; after = written }

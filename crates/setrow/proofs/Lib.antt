@@ -1,0 +1,5 @@
+pub mod Digits
+pub mod Fields
+pub mod Listed
+pub mod Parted
+pub mod Printed

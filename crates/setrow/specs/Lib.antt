@@ -1,0 +1,9 @@
+pub mod Cuts
+pub mod Forms
+pub mod Lines
+pub mod Messages
+pub mod Numbers
+pub mod Reading
+pub mod Shown
+pub mod Steps
+pub mod Text
