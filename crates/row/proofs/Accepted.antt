@@ -22,11 +22,11 @@ use Rattle.row.specs.declared.Row.{Row}
 use Rattle.row.proofs.Ranges.{passed, RangedRow, ranged-row}
 
 -- two lots of checks that let pass
-both : {E : Type 0} (some others : Option E) → then some others ≡ None → (some ≡ None) × (others ≡ None)
+pub both : {E : Type 0} (some others : Option E) → then some others ≡ None → (some ≡ None) × (others ≡ None)
 both None others e = (refl, e)
 both (Some failure) others e = let never : _≡_ {A = ℕ} 0 1 = cc in absurd (omega arith)
 
-unmapped : {X E : Type 0} (f : X → E) (o : Option X) → mapped f o ≡ None → o ≡ None
+pub unmapped : {X E : Type 0} (f : X → E) (o : Option X) → mapped f o ≡ None → o ≡ None
 unmapped f None e = refl
 unmapped f (Some x) e = let never : _≡_ {A = ℕ} 0 1 = cc in absurd (omega arith)
 

@@ -2,6 +2,7 @@
 --   cell-fault     the first field of a cell that is outside its range, if there is one
 --   row-fault      the same of a row
 --   before         wanted order: by wanted site, then by number
+--   row-ahead      row order: by line, then by left
 --   widths         the sites that cells cover together
 use mathlib.Core.Bool.{Bool, cond, _&&_, _||_}
 use mathlib.Core.List.{List, [], _∷_}
@@ -38,6 +39,10 @@ row-fault r = check (leb (r .line) 4095 && (ltb (r .left) (r .right) && leb (r .
 -- wanted order: by wanted site, then by number
 abbrev pub before : Cell → Cell → Bool
 before c d = ltb (c .wanted .site) (d .wanted .site) || (eqb (c .wanted .site) (d .wanted .site) && ltb (c .number) (d .number))
+
+-- row order: by line, then by left
+abbrev pub row-ahead : RowRecord → RowRecord → Bool
+row-ahead a b = ltb (a .line) (b .line) || (eqb (a .line) (b .line) && ltb (a .left) (b .left))
 
 -- the sites that cells cover together
 abbrev pub widths : List Cell → ℕ

@@ -4,7 +4,7 @@ ghost use Prim.Native.Nat.{_≤_};
 ghost use lib.ListN.{length};
 ghost use Rattle.std.specs.declared.option.Option.the-variants.{None};
 ghost use Rattle.row.specs.declared.Refusal.the-variants.{OutOfRange};
-ghost use Rattle.row.specs.Records.{cell-fault, row-fault, before, widths};
+ghost use Rattle.row.specs.Records.{cell-fault, row-fault, widths};
 ghost use Rattle.row.specs.Refusals.{fault-number, number-of, next-refusal, cells-refusal, set-refusal};
 ghost use Rattle.row.specs.Checked.{checked};
 use crate::Cell;
@@ -79,14 +79,6 @@ impl Cell {
             return Err(Fault::Number);
         }
         Ok(())
-    }
-
-    // Whether this cell comes before another in wanted order.
-    pub fn is_before(&self, other: &Cell) -> bool
-        ensures { λ r. ⌜ r ≡ before (now (self .entry)) (now (other .entry)) ⌝ }
-    {
-        self.wanted.site < other.wanted.site
-            || self.wanted.site == other.wanted.site && self.number < other.number
     }
 }
 

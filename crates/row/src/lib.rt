@@ -1,8 +1,10 @@
 // Cells and rows, wanted order, and `set`, which sets one row of cells.
 mod check;
 mod cluster;
+mod order;
 mod setting;
 
+pub use order::RowRanked;
 pub use setting::set;
 
 // A site on a line.
