@@ -1,0 +1,3 @@
+pub mod Advance
+pub mod Moves
+pub mod Names
