@@ -3,7 +3,7 @@ use Rattle.std.proofs.Common.{◌≡◌, ℕ, ◌+◌, ◌^◌, ◌<◌, ◌≤�
 use Rattle.std.proofs.ByRecursion.{All-get_or}
 use Rattle.std.proofs.lemmas.List.{at_drop_more}
 use Rattle.std.proofs.lemmas.Bool.{and_from, le-leb, cond-true}
-use Rattle.std.specs.List.{AllByRecursion as All}
+use Rattle.std.specs.List.{AllByRecursion}
 use Rattle.measure.specs.Costs.{Fair, InRange, in_range, cost_of}
 use Rattle.row.proofs.Ranges.{ranged}
 use Rattle.floor.specs.Seats.{floor_cost}
@@ -22,7 +22,7 @@ in_range_true w e p h =
 pub cost_within : (f : ℕ → ℕ → ℕ → ℕ) (w e p : ℕ) → InRange w e p → cost_of f w e p ≡ f w e p
 cost_within f w e p h = cond-true (in_range w e p) (f w e p) 0 (in_range_true w e p h)
 
-module _ {f : ℕ → ℕ → ℕ → ℕ} (fair : Fair f) (seats : List Seat) (i : ℕ) (within : i < length seats) (known : All SeatKnown seats) where
+module _ {f : ℕ → ℕ → ℕ → ℕ} (fair : Fair f) (seats : List Seat) (i : ℕ) (within : i < length seats) (known : AllByRecursion SeatKnown seats) where
   abbrev s : Seat
   s = get_or seats i no_seat
 

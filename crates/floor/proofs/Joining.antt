@@ -5,7 +5,7 @@ use Rattle.std.proofs.ByRecursion.{All-weaker}
 use Rattle.std.proofs.lemmas.List.Sums.{prefix_len-le-length}
 use Rattle.std.proofs.lemmas.Bool.{and_from, and_cases, or_parts, or_left, or_right, leb-true, ltb-true, both_ways, cases_Bool}
 use Rattle.std.specs.Option.{option_map}
-use Rattle.std.specs.List.{AllByRecursion as All}
+use Rattle.std.specs.List.{AllByRecursion}
 use Rattle.measure.specs.Costs.{Fair}
 use Rattle.row.specs.Records.{check, cell_fault, before, row_ahead, widths}
 use Rattle.row.specs.Stack.{Passes, Ready}
@@ -53,7 +53,7 @@ differ_turn s t e = grind arith
 -- what is known where placing refuses nothing
 pub record Placeable (seats : List Seat) (cell : Cell) : Type 0 where
   pub passes : Passes cell
-  pub fresh : All (λ s. eqb s.cell.number cell.number ≡ false) seats
+  pub fresh : AllByRecursion (λ s. eqb s.cell.number cell.number ≡ false) seats
   pub few : length seats < 1024
 
 pub placeable : (rows : List Row) (seats : List Seat) (cell : Cell) → place_refusal rows seats cell ≡ None → Placeable seats cell
@@ -135,7 +135,7 @@ seated_formed price fair rows seats cell row well none standing sites =
     (λ r other. subst Sited (sym (joined_others row cell seats r other)) (formed_sited rows seats well r))
 
 -- seats one behind the other, from lo on, cover no more than what is there
-cover : (ss : List Seat) (lo right : ℕ) → lo ≤ right → All (λ s. lo ≤ s.site) ss → All (λ s. s.site + s.cell.width ≤ right) ss → Pairs After ss → lo + widths (map (λ s. s.cell) ss) ≤ right
+cover : (ss : List Seat) (lo right : ℕ) → lo ≤ right → AllByRecursion (λ s. lo ≤ s.site) ss → AllByRecursion (λ s. s.site + s.cell.width ≤ right) ss → Pairs After ss → lo + widths (map (λ s. s.cell) ss) ≤ right
 cover [] lo right room from to clear = omega arith
 cover (s ∷ ss) lo right room from to clear =
     let rest = cover ss (s.site + s.cell.width) right to.0 clear.0 to.1 clear.1 in
@@ -148,7 +148,7 @@ row_fits rows seats row well standing =
     let listed = formed_listed rows seats well in
     let sited = formed_sited rows seats well row in
     let own = own_row rows row seats listed standing in
-    let here : All (λ s. (row.left ≤ s.site) × (s.site + s.cell.width ≤ row.right)) (seats_on row seats) =
+    let here : AllByRecursion (λ s. (row.left ≤ s.site) × (s.site + s.cell.width ≤ row.right)) (seats_on row seats) =
     all_with (λ s. s.row ≡ row) Inside (λ s. (row.left ≤ s.site) × (s.site + s.cell.width ≤ row.right)) (λ s e inside. subst (λ r. (r.left ≤ s.site) × (s.site + s.cell.width ≤ r.right)) e inside) (seats_on row seats) own sited.inside in
     let some = (ranged_row row (standing_passes rows listed.well row standing)).some in
     cover (seats_on row seats) row.left row.right (omega arith)

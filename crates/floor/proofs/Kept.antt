@@ -5,11 +5,11 @@ use Rattle.std.proofs.lemmas.List.Elements.{filter-append}
 use Rattle.std.proofs.ByRecursion.{All-weaker, all_kept_by}
 use Rattle.std.proofs.lemmas.List.{take-append-drop}
 use Rattle.std.proofs.lemmas.Bool.{cond-true, cond-false, cond_both}
-use Rattle.std.specs.List.{insert, AllByRecursion as All}
+use Rattle.std.specs.List.{insert, AllByRecursion}
 use Rattle.table.proofs.Inserted.{Pairs}
 
 -- two facts of each give a third
-pub all_with : {X : Type 0} (P Q S : X → Type 0) → ((x : X) → P x → Q x → S x) → (xs : List X) → All P xs → All Q xs → All S xs
+pub all_with : {X : Type 0} (P Q S : X → Type 0) → ((x : X) → P x → Q x → S x) → (xs : List X) → AllByRecursion P xs → AllByRecursion Q xs → AllByRecursion S xs
 all_with P Q S give [] ps qs = tt
 all_with P Q S give (x ∷ xs) ps qs = (give x ps.0 qs.0, all_with P Q S give xs ps.1 qs.1)
 
@@ -23,7 +23,7 @@ pub pairs_weaker : {X : Type 0} (R T : X → X → Type 0) → ((x y : X) → R 
 pairs_weaker R T give xs rs = pairs_with R R T (λ x y r _. give x y r) xs rs rs
 
 -- a fact of each, of both of any two
-pub pairs_both : {X : Type 0} (P : X → Type 0) (xs : List X) → All P xs → Pairs (λ x y. P x × P y) xs
+pub pairs_both : {X : Type 0} (P : X → Type 0) (xs : List X) → AllByRecursion P xs → Pairs (λ x y. P x × P y) xs
 pairs_both P [] h = tt
 pairs_both P (x ∷ xs) h = (All-weaker P (λ y. P x × P y) (λ y own. (h.0, own)) xs h.1, pairs_both P xs h.1)
 
@@ -36,27 +36,27 @@ module _ {X : Type 0} (p : X → Bool) where
   kept_no x xs e = cond-false (p x) (x ∷ filter p xs) (filter p xs) e
 
   -- all pass, and none does
-  pub kept_all : (xs : List X) → All (λ x. p x ≡ true) xs → filter p xs ≡ xs
+  pub kept_all : (xs : List X) → AllByRecursion (λ x. p x ≡ true) xs → filter p xs ≡ xs
   kept_all [] h = refl
   kept_all (x ∷ xs) h = kept_yes x xs h.0 ∙ ap (λ l. x ∷ l) (kept_all xs h.1)
 
-  pub kept_none : (xs : List X) → All (λ x. p x ≡ false) xs → filter p xs ≡ []
+  pub kept_none : (xs : List X) → AllByRecursion (λ x. p x ≡ false) xs → filter p xs ≡ []
   kept_none [] h = refl
   kept_none (x ∷ xs) h = kept_no x xs h.0 ∙ kept_none xs h.1
 
   -- a fact of those that pass, there and back
-  pub passing_kept : (P : X → Type 0) (xs : List X) → All (λ x. p x ≡ true → P x) xs → All P (filter p xs)
+  pub passing_kept : (P : X → Type 0) (xs : List X) → AllByRecursion (λ x. p x ≡ true → P x) xs → AllByRecursion P (filter p xs)
   passing_kept P [] h = tt
   passing_kept P (x ∷ xs) h =
-      cond_both (p x) (x ∷ filter p xs) (filter p xs) (All P) (λ yes. (h.0 yes, passing_kept P xs h.1)) (λ no. passing_kept P xs h.1)
+      cond_both (p x) (x ∷ filter p xs) (filter p xs) (AllByRecursion P) (λ yes. (h.0 yes, passing_kept P xs h.1)) (λ no. passing_kept P xs h.1)
 
-  tail_by : (P : X → Type 0) (x : X) (xs : List X) (b : Bool) → All P (cond b (x ∷ xs) xs) → All P xs
+  tail_by : (P : X → Type 0) (x : X) (xs : List X) (b : Bool) → AllByRecursion P (cond b (x ∷ xs) xs) → AllByRecursion P xs
   tail_by P x xs true h = h.1
   tail_by P x xs false h = h
 
-  pub kept_passing : (P : X → Type 0) (xs : List X) → All P (filter p xs) → All (λ x. p x ≡ true → P x) xs
+  pub kept_passing : (P : X → Type 0) (xs : List X) → AllByRecursion P (filter p xs) → AllByRecursion (λ x. p x ≡ true → P x) xs
   kept_passing P [] h = tt
-  kept_passing P (x ∷ xs) h = (λ yes. (subst (All P) (kept_yes x xs yes) h).0, kept_passing P xs (tail_by P x (filter p xs) (p x) h))
+  kept_passing P (x ∷ xs) h = (λ yes. (subst (AllByRecursion P) (kept_yes x xs yes) h).0, kept_passing P xs (tail_by P x (filter p xs) (p x) h))
 
   -- a fact of any two of a list holds of any two that are kept
   pub pairs_kept : (R : X → X → Type 0) (xs : List X) → Pairs R xs → Pairs R (filter p xs)
@@ -69,7 +69,7 @@ module _ {X : Type 0} (p : X → Bool) where
   pair_tail_by R x xs false h = h
 
   -- of the first and all others that are kept, and of any two of the others
-  pub pairs_first : (R : X → X → Type 0) (x : X) (xs : List X) → p x ≡ true → Pairs R (filter p (x ∷ xs)) → All (λ y. p y ≡ true → R x y) xs
+  pub pairs_first : (R : X → X → Type 0) (x : X) (xs : List X) → p x ≡ true → Pairs R (filter p (x ∷ xs)) → AllByRecursion (λ y. p y ≡ true → R x y) xs
   pairs_first R x xs e h = kept_passing (R x) xs (subst (Pairs R) (kept_yes x xs e) h).0
 
   pub pairs_others : (R : X → X → Type 0) (x : X) (xs : List X) → Pairs R (filter p (x ∷ xs)) → Pairs R (filter p xs)

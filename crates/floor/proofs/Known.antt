@@ -2,7 +2,7 @@
 use Rattle.std.proofs.Common.{◌≡◌, ℕ, ◌+◌, ◌<◌, ◌≤◌, Bool, true, false, not, ◌&&◌, ◌||◌, eqb, leb, ◌⊎◌, List, [], ◌∷◌, is_some, None, sym, refl, ap, ◌∙◌, subst, inl, inr, ⊎_elim, arith}
 use Rattle.std.proofs.ByRecursion.{All-weaker}
 use Rattle.std.proofs.lemmas.Bool.{and_parts, or_cases, leb-true, eqb-true}
-use Rattle.std.specs.List.{AllByRecursion as All}
+use Rattle.std.specs.List.{AllByRecursion}
 use Rattle.row.specs.Records.{cell_fault, row_fault, row_ahead}
 use Rattle.row.specs.Stack.{Passes}
 use Rattle.row.specs.declared.Row.{Row}
@@ -30,7 +30,7 @@ same_fields s r e known =
     let c = eqb-true r.right s.row.right sides.1 in
     record { line = omega (arith, known.line); some = omega (arith, known.some); right = omega (arith, known.right) }
 
-standing_ranged : (s : Seat) (rows : List Row) → All (λ r. not (is_some (row_fault r)) ≡ true) rows → any (is_row_of s) rows ≡ true → RangedRow s.row
+standing_ranged : (s : Seat) (rows : List Row) → AllByRecursion (λ r. not (is_some (row_fault r)) ≡ true) rows → any (is_row_of s) rows ≡ true → RangedRow s.row
 standing_ranged s [] ranged e = let never : ◌≡◌ {A = ℕ} 0 1 = cc in absurd (omega arith)
 standing_ranged s (r ∷ rows) ranged e =
     ⊎_elim (λ here. same_fields s r here (ranged_row r (none_found (row_fault r) ranged.0))) (λ there. standing_ranged s rows ranged.1 there) (or_cases (is_row_of s r) (any (is_row_of s) rows) e)
@@ -42,7 +42,7 @@ module _ (rows : List Row) (seats : List Seat) (well : formed rows seats ≡ tru
   seat_parts : (every (seat_formed rows) seats ≡ true) × (every_pair seats_apart seats ≡ true)
   seat_parts = and_parts (every (seat_formed rows) seats) (every_pair seats_apart seats) parts.1
 
-  pub rows_ranged : All (λ r. not (is_some (row_fault r)) ≡ true) rows
+  pub rows_ranged : AllByRecursion (λ r. not (is_some (row_fault r)) ≡ true) rows
   rows_ranged = every_all (λ r. not (is_some (row_fault r))) rows (and_parts (every (λ r. not (is_some (row_fault r))) rows) (every_pair row_ahead rows && every_pair (λ a b. not (share a b)) rows) parts.0).0
 
   known_one : (s : Seat) → seat_formed rows s ≡ true → SeatKnown s
@@ -57,9 +57,9 @@ module _ (rows : List Row) (seats : List Seat) (well : formed rows seats ≡ tru
         right = leb-true (s.site + s.cell.width) s.row.right sides.1;
       }
 
-  pub all_known : All SeatKnown seats
+  pub all_known : AllByRecursion SeatKnown seats
   all_known = All-weaker (λ s. seat_formed rows s ≡ true) SeatKnown known_one seats (every_all (seat_formed rows) seats seat_parts.0)
 
 -- the same of a slice of all of them
-pub known_slice : (rows : List Row) (seats slice : List Seat) → formed rows seats ≡ true → slice ≡ seats → All SeatKnown slice
-known_slice rows seats slice well same = subst (All SeatKnown) (sym same) (all_known rows seats well)
+pub known_slice : (rows : List Row) (seats slice : List Seat) → formed rows seats ≡ true → slice ≡ seats → AllByRecursion SeatKnown slice
+known_slice rows seats slice well same = subst (AllByRecursion SeatKnown) (sym same) (all_known rows seats well)

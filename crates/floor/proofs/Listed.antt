@@ -2,7 +2,7 @@
 use Rattle.std.proofs.Common.{◌≡◌, ℕ, zero, suc, ◌+◌, ◌<◌, ◌≤◌, Bool, true, false, not, ◌&&◌, ◌||◌, eqb, leb, List, [], ◌∷◌, length, get_or, is_some, None, sym, refl, ◌∙◌, subst, ⊎_elim, arith}
 use Rattle.std.proofs.ByRecursion.{All-weaker, all_kept_by, kept_by_passes}
 use Rattle.std.proofs.lemmas.Bool.{and_parts, and_from, or_cases, or_left, or_right, leb-true, le-leb, eqb-true, eq-eqb, not-true, not_from_false, both_ways, cases_Bool}
-use Rattle.std.specs.List.{AllByRecursion as All}
+use Rattle.std.specs.List.{AllByRecursion}
 use Rattle.row.specs.Records.{cell_fault, row_fault, row_ahead}
 use Rattle.row.specs.Stack.{Passes}
 use Rattle.row.specs.declared.Row.{Row}
@@ -47,7 +47,7 @@ standing_at (r ∷ rows) zero d within = or_left (is_row r r) (any (is_row r) ro
 standing_at (r ∷ rows) (suc i) d within = or_right (is_row (get_or rows i d) r) (any (is_row (get_or rows i d)) rows) (standing_at rows i d (omega arith))
 
 -- what holds of all rows holds of one that stands
-pub standing_all : (P : Row → Type 0) (rows : List Row) (row : Row) → All P rows → Standing rows row → P row
+pub standing_all : (P : Row → Type 0) (rows : List Row) (row : Row) → AllByRecursion P rows → Standing rows row → P row
 standing_all P [] row all e = absurd (both_ways false refl e)
 standing_all P (r ∷ rows) row all e =
     ⊎_elim (λ here. subst P (row_is row r here) all.0) (λ there. standing_all P rows row all.1 there) (or_cases (is_row row r) (any (is_row row) rows) e)
@@ -103,8 +103,8 @@ Differ s t = eqb s.cell.number t.cell.number ≡ false
 -- what `formed` says, whatever the sites
 pub record Listed (rows : List Row) (seats : List Seat) : Type 0 where
   pub well : rows_formed rows ≡ true
-  pub pass : All (λ s. Passes s.cell) seats
-  pub stand : All (λ s. Standing rows s.row) seats
+  pub pass : AllByRecursion (λ s. Passes s.cell) seats
+  pub stand : AllByRecursion (λ s. Standing rows s.row) seats
   pub order : Ordered seat_ahead seats
   pub differ : Pairs Differ seats
 
@@ -118,7 +118,7 @@ After s t = s.site + s.cell.width ≤ t.site
 
 -- what `formed` says of the sites of the seats of one row
 pub record Sited (seats : List Seat) : Type 0 where
-  pub inside : All Inside seats
+  pub inside : AllByRecursion Inside seats
   pub clear : Pairs After seats
 
 -- the same of any two seats of a floor
@@ -167,7 +167,7 @@ module _ (rows : List Row) (seats : List Seat) (e : formed rows seats ≡ true) 
   seat_parts : (every (seat_formed rows) seats ≡ true) × (every_pair seats_apart seats ≡ true)
   seat_parts = and_parts (every (seat_formed rows) seats) (every_pair seats_apart seats) parts.1
 
-  ones : All (λ s. seat_formed rows s ≡ true) seats
+  ones : AllByRecursion (λ s. seat_formed rows s ≡ true) seats
   ones = every_all (seat_formed rows) seats seat_parts.0
 
   twos : Pairs (λ s t. seats_apart s t ≡ true) seats
@@ -195,7 +195,7 @@ module _ (rows : List Row) (seats : List Seat) (e : formed rows seats ≡ true) 
   }
 
 -- what holds of the seats of each row holds of each seat ..
-each_own : (P : Seat → Type 0) (seats : List Seat) → ((r : Row) → All (λ s. on_row r s ≡ true → P s) seats) → All P seats
+each_own : (P : Seat → Type 0) (seats : List Seat) → ((r : Row) → AllByRecursion (λ s. on_row r s ≡ true → P s) seats) → AllByRecursion P seats
 each_own P [] h = tt
 each_own P (s ∷ seats) h = ((h s.row).0 (same_refl s.row), each_own P seats (λ r. (h r).1))
 

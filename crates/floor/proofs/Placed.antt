@@ -2,7 +2,7 @@
 use Rattle.std.proofs.Common.{◌≡◌, ℕ, ◌+◌, ◌<◌, ◌≤◌, Bool, true, false, cond, ◌||◌, leb, List, [], ◌∷◌, length, Some, None, Option, sym, refl, ap, ◌∙◌, subst, inl, inr, ⊎_elim, arith}
 use Rattle.std.proofs.lemmas.Bool.{or_left, or_right}
 use Rattle.std.specs.Option.{option_map}
-use Rattle.std.specs.List.{AllByRecursion as All}
+use Rattle.std.specs.List.{AllByRecursion}
 use Rattle.measure.specs.Costs.{Fair}
 use Rattle.row.specs.Stack.{Passes, Ready}
 use Rattle.row.specs.declared.Cell.{Cell}
@@ -58,9 +58,9 @@ module _ {f : ℕ → ℕ → ℕ → ℕ} (fair : Fair f) (rows : List Row) (se
   pub then_ordered : Ordered seat_ahead (joined row cell seats)
   then_ordered = (joined_listed row cell seats rows (formed_listed rows seats well) good.stands (able rows seats well cell none)).order
 
-  pub then_sited : All Sited (joined row cell seats)
+  pub then_sited : AllByRecursion Sited (joined row cell seats)
   then_sited =
-      subst (All Sited) (sym (inserted_is seat_ahead (new_seat row cell) seats))
+      subst (AllByRecursion Sited) (sym (inserted_is seat_ahead (new_seat row cell) seats))
       (put_all seat_ahead (new_seat row cell) Sited seats ((able rows seats well cell none).passes, omega arith) (sited_seats rows seats well))
 
   pub then_few : length (joined row cell seats) ≤ 1024

@@ -1,7 +1,7 @@
 -- What a floor that keeps its facts gives the functions that look at its rows.
 use Rattle.std.proofs.Common.{◌≡◌, ℕ, ◌+◌, ◌<◌, ◌≤◌, true, List, length, get_or, None, arith}
 use Rattle.std.proofs.ByRecursion.{All-weaker}
-use Rattle.std.specs.List.{AllByRecursion as All}
+use Rattle.std.specs.List.{AllByRecursion}
 use Rattle.row.specs.Stack.{Ready, Passes}
 use Rattle.row.specs.declared.Cell.{Cell}
 use Rattle.row.specs.declared.Row.{Row}
@@ -23,7 +23,7 @@ module _ (rows : List Row) (seats : List Seat) (well : formed rows seats ≡ tru
   one_sited : (s : Seat) → SeatKnown s → Sited s
   one_sited s k = let right = k.right in let row = k.ranged.right in (k.passes, omega arith)
 
-  pub sited_seats : All Sited seats
+  pub sited_seats : AllByRecursion Sited seats
   sited_seats = All-weaker SeatKnown Sited one_sited seats (all_known rows seats well)
 
   -- a standing row has its ranges

@@ -3,7 +3,7 @@ use Rattle.std.proofs.Common.{◌≡◌, ℕ, ◌+◌, ◌≤◌, true, false, c
 use Rattle.std.proofs.ByRecursion.{All-weaker}
 use Rattle.std.proofs.lemmas.List.{length-map, nil_from_length}
 use Rattle.std.proofs.lemmas.Bool.{cond_both, cases_Bool}
-use Rattle.std.specs.List.{AllByRecursion as All}
+use Rattle.std.specs.List.{AllByRecursion}
 use Rattle.row.specs.Settings.{Placed, placed, EveryPair, Within}
 use Rattle.row.specs.Stack.{Passes}
 use Rattle.row.specs.declared.Row.{Row}
@@ -30,11 +30,11 @@ module _ (row : Row) where
       (λ yes. ap (λ y. y ∷ map f (resited row xs seats)) (same s x) ∙ ap (λ l. f s ∷ l) (resited_map f same xs seats))
       (λ no. ap (λ l. f s ∷ l) (resited_map f same (x ∷ xs) seats))
 
-  pub resited_all : (P : Seat → Type 0) → ((s : Seat) (x : ℕ) → P s → P (moved s x)) → (xs : List ℕ) (seats : List Seat) → All P seats → All P (resited row xs seats)
+  pub resited_all : (P : Seat → Type 0) → ((s : Seat) (x : ℕ) → P s → P (moved s x)) → (xs : List ℕ) (seats : List Seat) → AllByRecursion P seats → AllByRecursion P (resited row xs seats)
   resited_all P keep xs [] h = tt
   resited_all P keep [] (s ∷ seats) h = h
   resited_all P keep (x ∷ xs) (s ∷ seats) h =
-      cond_both (on_row row s) (moved s x ∷ resited row xs seats) (s ∷ resited row (x ∷ xs) seats) (All P)
+      cond_both (on_row row s) (moved s x ∷ resited row xs seats) (s ∷ resited row (x ∷ xs) seats) (AllByRecursion P)
       (λ yes. (keep s x h.0, resited_all P keep xs seats h.1))
       (λ no. (h.0, resited_all P keep (x ∷ xs) seats h.1))
 
@@ -116,12 +116,12 @@ abbrev pub Behind : Placed → Placed → Type 0
 Behind p q = p.site + p.cell.width ≤ q.site
 
 -- seats of one row are sited as their placed cells are
-placed_inside : (row : Row) (ss : List Seat) → All (λ s. s.row ≡ row) ss → All (Within row) (placed (map (λ s. s.cell) ss) (map (λ s. s.site) ss)) → All Inside ss
+placed_inside : (row : Row) (ss : List Seat) → AllByRecursion (λ s. s.row ≡ row) ss → AllByRecursion (Within row) (placed (map (λ s. s.cell) ss) (map (λ s. s.site) ss)) → AllByRecursion Inside ss
 placed_inside row [] own h = tt
 placed_inside row (s ∷ ss) own h =
     (subst (λ r. (r.left ≤ s.site) × (s.site + s.cell.width ≤ r.right)) (sym own.0) h.0, placed_inside row ss own.1 h.1)
 
-placed_after : (s : Seat) (ss : List Seat) → All (Behind (record { cell = s.cell; site = s.site })) (placed (map (λ s. s.cell) ss) (map (λ s. s.site) ss)) → All (After s) ss
+placed_after : (s : Seat) (ss : List Seat) → AllByRecursion (Behind (record { cell = s.cell; site = s.site })) (placed (map (λ s. s.cell) ss) (map (λ s. s.site) ss)) → AllByRecursion (After s) ss
 placed_after s [] h = tt
 placed_after s (t ∷ ss) h = (h.0, placed_after s ss h.1)
 
@@ -130,19 +130,19 @@ placed_clear [] h = tt
 placed_clear (s ∷ ss) h = (placed_after s ss h.0, placed_clear ss h.1)
 
 -- the seats on a standing row have that very row
-pub own_row : (rows : List Row) (row : Row) (seats : List Seat) → Listed rows seats → Standing rows row → All (λ s. s.row ≡ row) (seats_on row seats)
+pub own_row : (rows : List Row) (row : Row) (seats : List Seat) → Listed rows seats → Standing rows row → AllByRecursion (λ s. s.row ≡ row) (seats_on row seats)
 own_row rows row seats listed stands =
     passing_kept (on_row row) (λ s. s.row ≡ row) seats
     (All-weaker (λ s. Standing rows s.row) (λ s. on_row row s ≡ true → s.row ≡ row) (λ s own on. standing_one rows listed.well s.row row own stands on) seats listed.stand)
 
 -- new sites of one row, within it and clear of each other, leave a floor that is formed but for the sites of that row well formed
-pub resited_formed : (rows : List Row) (row : Row) (xs : List ℕ) (seats : List Seat) → Listed rows seats → Standing rows row → ((r : Row) → same_row r row ≡ false → Sited (seats_on r seats)) → length xs ≡ length (seats_on row seats) → All (Within row) (placed (cells_on row seats) xs) → EveryPair Behind (placed (cells_on row seats) xs) → formed rows (resited row xs seats) ≡ true
+pub resited_formed : (rows : List Row) (row : Row) (xs : List ℕ) (seats : List Seat) → Listed rows seats → Standing rows row → ((r : Row) → same_row r row ≡ false → Sited (seats_on r seats)) → length xs ≡ length (seats_on row seats) → AllByRecursion (Within row) (placed (cells_on row seats) xs) → EveryPair Behind (placed (cells_on row seats) xs) → formed rows (resited row xs seats) ≡ true
 resited_formed rows row xs seats listed stands others long within behind =
     let new : List Seat = resited row xs seats in
     let kept = resited_listed row rows xs seats listed in
     let same : placed (cells_on row new) (sites_on row new) ≡ placed (cells_on row seats) xs = ap (λ cs. placed cs (sites_on row new)) (resited_cells_on row xs seats) ∙ ap (placed (cells_on row seats)) (resited_sites_on row xs seats long) in
     let own : Sited (seats_on row new) = record {
-      inside = placed_inside row (seats_on row new) (own_row rows row new kept stands) (subst (All (Within row)) (sym same) within);
+      inside = placed_inside row (seats_on row new) (own_row rows row new kept stands) (subst (AllByRecursion (Within row)) (sym same) within);
       clear = placed_clear (seats_on row new) (subst (EveryPair Behind) (sym same) behind);
     } in
     listed_formed rows new kept

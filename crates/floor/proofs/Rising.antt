@@ -1,7 +1,7 @@
 -- The rise of a row, as the program adds it up.
 use Rattle.std.proofs.Common.{◌≡◌, ℕ, ◌+◌, ◌-◌, ◌*◌, ◌^◌, ◌<◌, ◌≤◌, List, [], ◌∷◌, map, length, sym, refl, ap, ◌∙◌, subst, arith}
 use Rattle.std.proofs.ByRecursion.{All-take, All-drop}
-use Rattle.std.specs.List.{between, AllByRecursion as All}
+use Rattle.std.specs.List.{between, AllByRecursion}
 use Rattle.measure.specs.Costs.{Fair, InRange, cost_of}
 use Rattle.row.specs.Sites.{row_sites, sites_cost}
 use Rattle.row.specs.Stack.{Passes, Ready}
@@ -19,7 +19,7 @@ use Rattle.floor.proofs.Resited.{resited_cells_on, resited_sites_on}
 use Rattle.floor.proofs.Settling.{sites_long}
 
 -- cells at places cost at most 2^42 each
-pub cost_bounded : {f : ℕ → ℕ → ℕ → ℕ} → Fair f → (cs : List Cell) (ys : List ℕ) → All Passes cs → All (λ y. y ≤ 65535) ys → sites_cost f cs ys ≤ 2 ^ 42 * length cs
+pub cost_bounded : {f : ℕ → ℕ → ℕ → ℕ} → Fair f → (cs : List Cell) (ys : List ℕ) → AllByRecursion Passes cs → AllByRecursion (λ y. y ≤ 65535) ys → sites_cost f cs ys ≤ 2 ^ 42 * length cs
 cost_bounded fair [] ys pass places = omega arith
 cost_bounded fair (c ∷ cs) [] pass places = omega arith
 cost_bounded fair (c ∷ cs) (y ∷ ys) pass places =

@@ -3,7 +3,7 @@ use Rattle.std.proofs.Common.{◌≡◌, ◌<◌, Bool, true, false, not, ◌&&�
 use Rattle.std.proofs.ByRecursion.{All-weaker}
 use Rattle.std.proofs.lemmas.Bool.{and_parts, and_from, not-true, ltb-true}
 use Rattle.std.specs.Option.{option_map}
-use Rattle.std.specs.List.{AllByRecursion as All}
+use Rattle.std.specs.List.{AllByRecursion}
 use Rattle.row.specs.Records.{check, row_fault, row_ahead}
 use Rattle.row.specs.declared.Row.{Row}
 use Rattle.row.proofs.Accepted.{both, unmapped}
@@ -36,7 +36,7 @@ module _ (rows : List Row) (row : Row) (none : add_refusal rows row ≡ None) wh
   ranged_new : RangedRow row
   ranged_new = ranged_row row passes_new
 
-  apart_new : All (λ r. share row r ≡ false) rows
+  apart_new : AllByRecursion (λ r. share row r ≡ false) rows
   apart_new =
       let full = passed (ltb (length rows) 64) RowsFull (check (not (any (share row) rows)) RowShares None) checks.1 in
       none_any (share row) rows (passed (not (any (share row) rows)) RowShares None full.1).0
@@ -49,11 +49,11 @@ module _ (rows : List Row) (row : Row) (none : add_refusal rows row ≡ None) wh
     pair_parts : (every_pair row_ahead rows ≡ true) × (every_pair (λ a b. not (share a b)) rows ≡ true)
     pair_parts = and_parts (every_pair row_ahead rows) (every_pair (λ a b. not (share a b)) rows) parts.1
 
-    all_ranged : All (λ r. not (is_some (row_fault r)) ≡ true) rows
+    all_ranged : AllByRecursion (λ r. not (is_some (row_fault r)) ≡ true) rows
     all_ranged = every_all (λ r. not (is_some (row_fault r))) rows parts.0
 
     -- no standing row has the new one's line and left
-    none_same : (rs : List Row) → All (λ r. not (is_some (row_fault r)) ≡ true) rs → All (λ r. share row r ≡ false) rs → All (λ r. row_ahead r row ≡ false → row_ahead row r ≡ true) rs
+    none_same : (rs : List Row) → AllByRecursion (λ r. not (is_some (row_fault r)) ≡ true) rs → AllByRecursion (λ r. share row r ≡ false) rs → AllByRecursion (λ r. row_ahead r row ≡ false → row_ahead row r ≡ true) rs
     none_same [] ranged apart = tt
     none_same (r ∷ rs) ranged apart =
         (λ behind. row_total r row behind (shared_same row r ranged_new (ranged_row r (none_found (row_fault r) ranged.0)) apart.0), none_same rs ranged.1 apart.1)

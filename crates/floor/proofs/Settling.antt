@@ -5,7 +5,7 @@ use Rattle.std.proofs.lemmas.List.{length-map}
 use Rattle.std.proofs.lemmas.List.Sums.{length-filter, count_by-le-length}
 use Rattle.std.proofs.lemmas.Bool.{and_parts, and_from, or_cases, le-leb, eq-eqb, cond-true}
 use Rattle.std.specs.Option.{option_map}
-use Rattle.std.specs.List.{AllByRecursion as All}
+use Rattle.std.specs.List.{AllByRecursion}
 use Rattle.measure.specs.Costs.{Fair}
 use Rattle.row.specs.Records.{check, then, cell_fault, row_fault, before, row_ahead, widths}
 use Rattle.row.specs.Refusals.{comes_after, next_refusal, cells_refusal}
@@ -38,7 +38,7 @@ check_none : {E : Type 0} (test : Bool) (failure : E) (others : Option E) → te
 check_none test failure others a b = cond-true test others (Some failure) a ∙ b
 
 -- cells that pass their own checks, each after the one before it
-cells_none : (last : Option Cell) (cs : List Cell) → All Passes cs → All (λ c. comes_after last c ≡ true) cs → Pairs (λ c d. before c d ≡ true) cs → cells_refusal last cs ≡ None
+cells_none : (last : Option Cell) (cs : List Cell) → AllByRecursion Passes cs → AllByRecursion (λ c. comes_after last c ≡ true) cs → Pairs (λ c d. before c d ≡ true) cs → cells_refusal last cs ≡ None
 cells_none last [] pass after order = refl
 cells_none last (c ∷ cs) pass after order =
     then_none (next_refusal last c) (cells_refusal (Some c) cs)
@@ -46,7 +46,7 @@ cells_none last (c ∷ cs) pass after order =
     (cells_none (Some c) cs pass.1 order.0 order.1)
 
 -- what `set` accepts
-pub set_accepts : (row : Row) (cells : List Cell) → row_fault row ≡ None → length cells ≤ 1024 → All Passes cells → Pairs (λ c d. before c d ≡ true) cells → widths cells ≤ row.right - row.left → Ready row cells
+pub set_accepts : (row : Row) (cells : List Cell) → row_fault row ≡ None → length cells ≤ 1024 → AllByRecursion Passes cells → Pairs (λ c d. before c d ≡ true) cells → widths cells ≤ row.right - row.left → Ready row cells
 set_accepts row cells own few pass order wide =
     then_none (option_map OutOfRange (row_fault row)) _ (ap (option_map OutOfRange) own)
     (check_none (leb (length cells) 1024 && eqb (length cells) (length cells)) Size _
@@ -68,7 +68,7 @@ cells_ordered [] h = tt
 cells_ordered (s ∷ ss) h = (All-map (λ d. before s.cell d ≡ true) (λ t. t.cell) ss h.0, cells_ordered ss h.1)
 
 -- the cells of a standing row pass their checks and are in wanted order
-pub cells_pass : (rows : List Row) (row : Row) (seats : List Seat) → Listed rows seats → All Passes (cells_on row seats)
+pub cells_pass : (rows : List Row) (row : Row) (seats : List Seat) → Listed rows seats → AllByRecursion Passes (cells_on row seats)
 cells_pass rows row seats listed = All-map Passes (λ s. s.cell) (seats_on row seats) (all_kept_by (on_row row) (λ s. Passes s.cell) seats listed.pass)
 
 pub cells_in_order : (rows : List Row) (row : Row) (seats : List Seat) → Listed rows seats → Pairs (λ c d. before c d ≡ true) (cells_on row seats)
@@ -95,7 +95,7 @@ row_accepts rows row seats listed stands few wide =
 
 -- the cells of a chain start behind each other
 module _ (f : ℕ → ℕ → ℕ → ℕ) (row : Row) where
-  chain_from : (cs : List Cell) (ys : List ℕ) (lo : ℕ) → Chain (lane f row) lo cs ys → All (λ p. lo ≤ p.site) (placed cs ys)
+  chain_from : (cs : List Cell) (ys : List ℕ) (lo : ℕ) → Chain (lane f row) lo cs ys → AllByRecursion (λ p. lo ≤ p.site) (placed cs ys)
   chain_from [] ys lo chain = tt
   chain_from (c ∷ cs) [] lo chain = tt
   chain_from (c ∷ cs) (y ∷ ys) lo chain =
@@ -125,7 +125,7 @@ module _ (price : ℕ → ℕ → ℕ → ℕ) (fair : Fair price) (row : Row) (
   pub sites_long : length (row_sites price row (cells_on row seats)) ≡ length (seats_on row seats)
   sites_long = setting.each ∙ length-map (seats_on row seats) (λ s. s.cell)
 
-  pub sites_within : All (Within row) (placed (cells_on row seats) (row_sites price row (cells_on row seats)))
+  pub sites_within : AllByRecursion (Within row) (placed (cells_on row seats) (row_sites price row (cells_on row seats)))
   sites_within = setting.legal.0
 
   pub sites_behind : EveryPair Behind (placed (cells_on row seats) (row_sites price row (cells_on row seats)))

@@ -2,7 +2,7 @@
 use Rattle.std.proofs.Common.{◌≡◌, ℕ, ◌+◌, ◌^◌, ◌<◌, ◌≤◌, List, map, length, get_or, drop, arith}
 use Rattle.std.proofs.ByRecursion.{All-get_or}
 use Rattle.std.proofs.lemmas.List.{at_drop_more, at_drop_all}
-use Rattle.std.specs.List.{AllByRecursion as All}
+use Rattle.std.specs.List.{AllByRecursion}
 use Rattle.measure.specs.Costs.{Fair}
 use Rattle.row.specs.Sites.{sites_cost}
 use Rattle.row.proofs.Ranges.{Ranged, ranged}
@@ -11,7 +11,7 @@ use Rattle.floor.specs.Seats.{cell_of, site_of, Sited}
 use Rattle.floor.specs.declared.Seat.{Seat}
 use Rattle.floor.proofs.Defaults.{no_seat}
 
-module _ (seats : List Seat) (i : ℕ) (within : i < length seats) (sited : All Sited seats) where
+module _ (seats : List Seat) (i : ℕ) (within : i < length seats) (sited : AllByRecursion Sited seats) where
   abbrev s : Seat
   s = get_or seats i no_seat
 

@@ -6,7 +6,7 @@ use Rattle.std.proofs.lemmas.List.Elements.{filter-append}
 use Rattle.std.proofs.ByRecursion.{All-take, All-drop, All-weaker}
 use Rattle.std.proofs.lemmas.List.{drop-drop, take-append-drop, length-map, length-append}
 use Rattle.std.proofs.lemmas.Slice.{between_is}
-use Rattle.std.specs.List.{insert, between, AllByRecursion as All}
+use Rattle.std.specs.List.{insert, between, AllByRecursion}
 use Rattle.row.proofs.Parts.{between_join, take_join}
 use Rattle.row.proofs.Ranges.{ranged}
 use Rattle.row.specs.Records.{before, row_ahead}
@@ -22,16 +22,16 @@ use Rattle.floor.proofs.Defaults.{no_seat}
 use Rattle.floor.proofs.Orders.{seat_chain}
 
 -- a filter that keeps nothing, and one that keeps all
-kept_none : {X : Type 0} (test : X → Bool) (xs : List X) → All (λ x. test x ≡ false) xs → filter test xs ≡ []
+kept_none : {X : Type 0} (test : X → Bool) (xs : List X) → AllByRecursion (λ x. test x ≡ false) xs → filter test xs ≡ []
 kept_none test [] h = refl
 kept_none test (x ∷ xs) h = ap (λ b. cond b (x ∷ filter test xs) (filter test xs)) h.0 ∙ kept_none test xs h.1
 
-kept_all : {X : Type 0} (test : X → Bool) (xs : List X) → All (λ x. test x ≡ true) xs → filter test xs ≡ xs
+kept_all : {X : Type 0} (test : X → Bool) (xs : List X) → AllByRecursion (λ x. test x ≡ true) xs → filter test xs ≡ xs
 kept_all test [] h = refl
 kept_all test (x ∷ xs) h = ap (λ b. cond b (x ∷ filter test xs) (filter test xs)) h.0 ∙ ap (λ l. x ∷ l) (kept_all test xs h.1)
 
 -- two facts of each element give a third
-both_all : {X : Type 0} (P Q S : X → Type 0) → ((x : X) → P x → Q x → S x) → (xs : List X) → All P xs → All Q xs → All S xs
+both_all : {X : Type 0} (P Q S : X → Type 0) → ((x : X) → P x → Q x → S x) → (xs : List X) → AllByRecursion P xs → AllByRecursion Q xs → AllByRecursion S xs
 both_all P Q S give [] ps qs = tt
 both_all P Q S give (x ∷ xs) ps qs = (give x ps.0 qs.0, both_all P Q S give xs ps.1 qs.1)
 
@@ -58,11 +58,11 @@ on_own : (row : Row) (cell : Cell) → on_row row (new_seat row cell) ≡ true
 on_own row cell = grind arith
 
 -- the parts of a list that is cut in two
-all_front : {X : Type 0} (P : X → Type 0) (xs ys : List X) → All P (xs ++ ys) → All P xs
+all_front : {X : Type 0} (P : X → Type 0) (xs ys : List X) → AllByRecursion P (xs ++ ys) → AllByRecursion P xs
 all_front P [] ys h = tt
 all_front P (x ∷ xs) ys h = (h.0, all_front P xs ys h.1)
 
-all_rest : {X : Type 0} (P : X → Type 0) (xs ys : List X) → All P (xs ++ ys) → All P ys
+all_rest : {X : Type 0} (P : X → Type 0) (xs ys : List X) → AllByRecursion P (xs ++ ys) → AllByRecursion P ys
 all_rest P [] ys h = h
 all_rest P (x ∷ xs) ys h = all_rest P xs ys h.1
 
@@ -71,7 +71,7 @@ pub drop_join : {X : Type 0} (xs : List X) (a b : ℕ) → a ≤ b → between a
 drop_join xs a b h =
     ap (λ l. between a b xs ++ l) (sym (drop-drop (b - a) a xs ∙ ap (λ n. drop n xs) (omega arith))) ∙ take-append-drop (b - a) (drop a xs)
 
-module _ (row : Row) (seats : List Seat) (ordered : Ordered seat_ahead seats) (low_sites : All (λ s. s.cell.wanted.site ≤ 65535) seats) where
+module _ (row : Row) (seats : List Seat) (ordered : Ordered seat_ahead seats) (low_sites : AllByRecursion (λ s. s.cell.wanted.site ≤ 65535) seats) where
   abbrev low : ℕ
   low = start_of row seats
 
@@ -84,19 +84,19 @@ module _ (row : Row) (seats : List Seat) (ordered : Ordered seat_ahead seats) (l
   pub end_within : high ≤ length seats
   end_within = rank_within seat_ahead seat_chain (row_key row 65536) no_seat seats ordered
 
-  pub none_before : All (λ s. on_row row s ≡ false) (take low seats)
+  pub none_before : AllByRecursion (λ s. on_row row s ≡ false) (take low seats)
   none_before = All-weaker (λ s. seat_ahead s (row_key row 0) ≡ true) (λ s. on_row row s ≡ false) (before_low row) (take low seats) (rank_front seat_ahead seat_chain (row_key row 0) no_seat seats ordered)
 
-  none_after : All (λ s. on_row row s ≡ false) (drop high seats)
+  none_after : AllByRecursion (λ s. on_row row s ≡ false) (drop high seats)
   none_after =
       both_all (λ s. s.cell.wanted.site ≤ 65535) (λ s. seat_ahead s (row_key row 65536) ≡ false) (λ s. on_row row s ≡ false) (past_high row) (drop high seats)
       (All-drop (λ s. s.cell.wanted.site ≤ 65535) high seats low_sites) (rank_back seat_ahead seat_chain (row_key row 65536) no_seat seats ordered)
 
-  pub all_among : All (λ s. on_row row s ≡ true) (between low high seats)
+  pub all_among : AllByRecursion (λ s. on_row row s ≡ true) (between low high seats)
   all_among =
       both_all (λ s. seat_ahead s (row_key row 0) ≡ false) (λ s. seat_ahead s (row_key row 65536) ≡ true) (λ s. on_row row s ≡ true) (among row) (between low high seats)
       (All-take (λ s. seat_ahead s (row_key row 0) ≡ false) (high - low) (drop low seats) (rank_back seat_ahead seat_chain (row_key row 0) no_seat seats ordered))
-      (subst (All (λ s. seat_ahead s (row_key row 65536) ≡ true)) (sym (between_is seats low high))
+      (subst (AllByRecursion (λ s. seat_ahead s (row_key row 65536) ≡ true)) (sym (between_is seats low high))
       (All-drop (λ s. seat_ahead s (row_key row 65536) ≡ true) low (take high seats) (rank_front seat_ahead seat_chain (row_key row 65536) no_seat seats ordered)))
 
   -- the seats of a row, as a stretch
@@ -126,8 +126,8 @@ module _ (row : Row) (seats : List Seat) (ordered : Ordered seat_ahead seats) (l
     parted : between low at seats ++ between at high seats ≡ between low high seats
     parted = between_join seats low at high start_at at_end
 
-    among_parts : All (λ s. on_row row s ≡ true) (between low at seats ++ between at high seats)
-    among_parts = subst (All (λ s. on_row row s ≡ true)) (sym parted) all_among
+    among_parts : AllByRecursion (λ s. on_row row s ≡ true) (between low at seats ++ between at high seats)
+    among_parts = subst (AllByRecursion (λ s. on_row row s ≡ true)) (sym parted) all_among
 
     -- the seats of a row with a cell more
     pub joined_stretch : seats_on row (joined row cell seats) ≡ between low at seats ++ (new_seat row cell ∷ between at high seats)
@@ -151,7 +151,7 @@ module _ (row : Row) (seats : List Seat) (ordered : Ordered seat_ahead seats) (l
         ∙ ap (λ l. between low at seats ++ l) (ap (λ b. cond b (s ∷ filter (on_row row) (drop at seats)) (filter (on_row row) (drop at seats))) (on_own row cell) ∙ ap (λ l. s ∷ l) behind)
 
 -- seats of cells within their ranges are wanted at places
-pub wanted_places : (seats : List Seat) → All Sited seats → All (λ s. s.cell.wanted.site ≤ 65535) seats
+pub wanted_places : (seats : List Seat) → AllByRecursion Sited seats → AllByRecursion (λ s. s.cell.wanted.site ≤ 65535) seats
 wanted_places seats sited = All-weaker Sited (λ s. s.cell.wanted.site ≤ 65535) (λ s h. (ranged s.cell h.0).site) seats sited
 
 -- The same by the numbers that a search answers: where a row's seats begin and end, and where a new one goes.
@@ -162,7 +162,7 @@ pub record Found (row : Row) (cell : Cell) (seats : List Seat) (start at end : �
   pub cells : map cell_of (between start at seats) ++ (cell ∷ map cell_of (between at end seats)) ≡ cells_on row (joined row cell seats)
   pub count : end - start + 1 ≡ length (cells_on row (joined row cell seats))
 
-pub found : (row : Row) (cell : Cell) (seats : List Seat) (start at end : ℕ) → Ordered seat_ahead seats → All Sited seats → Passes cell → start ≡ start_of row seats → at ≡ rank_of seat_ahead seats (new_seat row cell) → end ≡ end_of row seats → Found row cell seats start at end
+pub found : (row : Row) (cell : Cell) (seats : List Seat) (start at end : ℕ) → Ordered seat_ahead seats → AllByRecursion Sited seats → Passes cell → start ≡ start_of row seats → at ≡ rank_of seat_ahead seats (new_seat row cell) → end ≡ end_of row seats → Found row cell seats start at end
 found row cell seats start at end ordered sited passes s a e =
     let low = wanted_places seats sited in
     let first = start_at row seats ordered low cell passes in

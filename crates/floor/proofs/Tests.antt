@@ -1,17 +1,17 @@
 -- Tests over lists, and what they say.
 use Rattle.std.proofs.Common.{◌≡◌, ℕ, Bool, true, false, cond, not, ◌&&◌, ◌||◌, ◌⊎◌, List, [], ◌∷◌, ◌++◌, is_some, Some, None, Option, sym, refl, ap, ◌∙◌, inl, inr, ⊎_elim, arith}
 use Rattle.std.proofs.lemmas.Bool.{and_parts, and_from, or_parts, or_left, or_right, or_cases, not-true}
-use Rattle.std.specs.List.{AllByRecursion as All}
+use Rattle.std.specs.List.{AllByRecursion}
 use Rattle.table.specs.Order.{Ordered}
 use Rattle.table.proofs.Inserted.{Pairs, put_in}
 use Rattle.floor.specs.Formed.{every, every_pair}
 use Rattle.floor.specs.Refusals.{any}
 
-pub every_all : {X : Type 0} (test : X → Bool) (xs : List X) → every test xs ≡ true → All (λ x. test x ≡ true) xs
+pub every_all : {X : Type 0} (test : X → Bool) (xs : List X) → every test xs ≡ true → AllByRecursion (λ x. test x ≡ true) xs
 every_all test [] e = tt
 every_all test (x ∷ xs) e = let parts = and_parts (test x) (every test xs) e in (parts.0, every_all test xs parts.1)
 
-pub all_every : {X : Type 0} (test : X → Bool) (xs : List X) → All (λ x. test x ≡ true) xs → every test xs ≡ true
+pub all_every : {X : Type 0} (test : X → Bool) (xs : List X) → AllByRecursion (λ x. test x ≡ true) xs → every test xs ≡ true
 all_every test [] h = refl
 all_every test (x ∷ xs) h = and_from (test x) (every test xs) h.0 (all_every test xs h.1)
 
@@ -41,7 +41,7 @@ pub nothing_some : {X : Type 0} (o : Option X) → o ≡ None → not (is_some o
 nothing_some o e = ap (λ p. not (is_some p)) e
 
 -- none of a list passes a test
-pub none_any : {X : Type 0} (test : X → Bool) (xs : List X) → not (any test xs) ≡ true → All (λ x. test x ≡ false) xs
+pub none_any : {X : Type 0} (test : X → Bool) (xs : List X) → not (any test xs) ≡ true → AllByRecursion (λ x. test x ≡ false) xs
 none_any test [] e = tt
 none_any test (x ∷ xs) e =
     let parts = or_parts (test x) (any test xs) (not-true (test x || any test xs) e) in

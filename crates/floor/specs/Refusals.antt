@@ -1,8 +1,9 @@
 -- What the calls of a floor refuse, and the number of each refusal.
 --   number_of        a refusal's number
---   stands_by        whether a number stands, among what holds a cell and its row; stands: the same of seats
---   has_sites_by     whether a row has sites for a cell beside those that stand there; has_sites: the same of seats
---   add_refusal, place_refusal_by     the first check of a call that fails, if one does; place_refusal: the same of seats
+--   stands           whether a number stands
+--   has_sites        whether a row has sites for a cell beside those that stand there
+--   add_refusal, place_refusal     the first check of a call that fails, if one does
+--   stands_by, has_sites_by, place_refusal_by     the same of whatever holds a cell and its row
 use Rattle.std.specs.Prelude.{ℕ, ◌+◌, ◌-◌, Bool, true, false, not, ◌&&◌, ◌||◌, List, [], ◌∷◌, length, Some, None, Option, nat_eq, nat_le, nat_lt}
 use Rattle.std.specs.Option.{option_map}
 use Rattle.row.specs.Records.{check, then, cell_fault, row_fault, widths}
@@ -10,7 +11,7 @@ use Rattle.row.specs.Refusals.{fault_number}
 use Rattle.row.specs.declared.Cell.{Cell}
 use Rattle.row.specs.declared.Row.{Row}
 use Rattle.floor.specs.Rows.{share}
-use Rattle.floor.specs.Seats.{cells_by, cell_of, row_of}
+use Rattle.floor.specs.Seats.{cells_on, cells_by}
 use Rattle.floor.specs.declared.Refusal.{Refusal}
 use Rattle.floor.specs.declared.Refusal.TheVariants.{OutOfRange, NumberStands, CellsFull, NoRoom, NotStanding, RowsFull, RowShares}
 use Rattle.floor.specs.declared.Seat.{Seat}
@@ -30,6 +31,29 @@ abbrev pub any : {X : Type 0} → (X → Bool) → List X → Bool
 any test [] = false
 any test (x ∷ xs) = test x || any test xs
 
+-- whether a number stands
+abbrev pub stands : ℕ → List Seat → Bool
+stands number seats = any (λ s. nat_eq s.cell.number number) seats
+
+-- whether a row has sites for a cell: the widths that stand there and the new one are at most right - left
+abbrev pub has_sites : List Seat → Cell → Row → Bool
+has_sites seats cell row = nat_le (widths (cells_on row seats) + cell.width) (row.right - row.left)
+
+-- the checks of adding a row, in their order: its ranges; 64 rows stand; it shares a site with a standing row
+abbrev pub add_refusal : List Row → Row → Option Refusal
+add_refusal rows row =
+    then (option_map OutOfRange (row_fault row))
+    (check (nat_lt (length rows) 64) RowsFull
+    (check (not (any (share row) rows)) RowShares None))
+
+-- the checks of placing a cell, in their order: its ranges; its number stands; 1,024 cells stand; no row has sites for it
+abbrev pub place_refusal : List Row → List Seat → Cell → Option Refusal
+place_refusal rows seats cell =
+    then (option_map OutOfRange (cell_fault cell))
+    (check (not (stands cell.number seats)) NumberStands
+    (check (nat_lt (length seats) 1024) CellsFull
+    (check (any (has_sites seats cell) rows) NoRoom None)))
+
 -- What stands is a list of records that hold a cell and the row that it stands on.
 module _ {X : Type 0} (cell_of : X → Cell) (row_of : X → Row) where
   -- whether a number stands
@@ -47,20 +71,3 @@ module _ {X : Type 0} (cell_of : X → Cell) (row_of : X → Row) where
       (check (not (stands_by cell.number standing)) NumberStands
       (check (nat_lt (length standing) 1024) CellsFull
       (check (any (has_sites_by standing cell) rows) NoRoom None)))
-
--- the same of the seats of a floor
-abbrev pub stands : ℕ → List Seat → Bool
-stands number seats = stands_by cell_of row_of number seats
-
-abbrev pub has_sites : List Seat → Cell → Row → Bool
-has_sites seats cell row = has_sites_by cell_of row_of seats cell row
-
-abbrev pub place_refusal : List Row → List Seat → Cell → Option Refusal
-place_refusal rows seats cell = place_refusal_by cell_of row_of rows seats cell
-
--- the checks of adding a row, in their order: its ranges; 64 rows stand; it shares a site with a standing row
-abbrev pub add_refusal : List Row → Row → Option Refusal
-add_refusal rows row =
-    then (option_map OutOfRange (row_fault row))
-    (check (nat_lt (length rows) 64) RowsFull
-    (check (not (any (share row) rows)) RowShares None))

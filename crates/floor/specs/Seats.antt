@@ -47,7 +47,7 @@ abbrev pub row_of : Seat → Row
 row_of s = s.row
 
 abbrev pub cells_on : Row → List Seat → List Cell
-cells_on row seats = cells_by cell_of row_of row seats
+cells_on row seats = map cell_of (seats_on row seats)
 
 -- a seat's site
 abbrev pub site_of : Seat → ℕ
@@ -103,7 +103,8 @@ moved_all (x ∷ xs) (s ∷ seats) = moved s x ∷ moved_all xs seats
 abbrev pub settled : (ℕ → ℕ → ℕ → ℕ) → Row → List Seat → List Seat
 settled price row seats = resited row (row_sites price row (cells_on row seats)) seats
 
--- the cost of all seats
+-- the cost of all seats: of the site against the wanted site, and of the line against the wanted line
 abbrev pub floor_cost : (ℕ → ℕ → ℕ → ℕ) → List Seat → ℕ
 floor_cost price [] = 0
-floor_cost price (s ∷ seats) = cell_cost price s.cell s.row s.site + floor_cost price seats
+floor_cost price (s ∷ seats) =
+    (price s.cell.wanted.site s.cell.weight s.site + price s.cell.wanted.line s.cell.weight s.row.line) + floor_cost price seats

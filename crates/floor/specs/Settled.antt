@@ -2,7 +2,7 @@
 --   Settled      every row's sites are those that `set` gives its cells
 --   Least        a placing went to a row that has sites, no row with sites rises less, and one that is ahead in row order rises more
 use Rattle.std.specs.Prelude.{◌≡◌, ℕ, ◌<◌, ◌≤◌, true, List}
-use Rattle.std.specs.List.{ContainsAt as Has, AllByRecursion as All}
+use Rattle.std.specs.List.{ContainsAt as Has, AllByRecursion}
 use Rattle.row.specs.Records.{row_ahead}
 use Rattle.row.specs.Sites.{row_sites}
 use Rattle.row.specs.declared.Cell.{Cell}
@@ -15,7 +15,7 @@ use Rattle.floor.specs.declared.Seat.{Seat}
 
 -- every row's sites are those that `set` gives its cells
 abbrev pub Settled : (ℕ → ℕ → ℕ → ℕ) → List Row → List Seat → Type 0
-Settled price rows seats = All (λ row. sites_on row seats ≡ row_sites price row (cells_on row seats)) rows
+Settled price rows seats = AllByRecursion (λ row. sites_on row seats ≡ row_sites price row (cells_on row seats)) rows
 
 -- where a placing went, and that no other row would have been better
 pub record Least (price : ℕ → ℕ → ℕ → ℕ) (rows : List Row) (seats : List Seat) (cell : Cell) (placing : Placing) : Type 0 where
@@ -24,5 +24,5 @@ pub record Least (price : ℕ → ℕ → ℕ → ℕ) (rows : List Row) (seats 
   pub fits : has_sites seats cell row ≡ true
   pub line : placing.spot.line ≡ row.line
   pub rises : placing.rise ≡ rise price seats cell row
-  pub least : All (λ other. has_sites seats cell other ≡ true → placing.rise ≤ rise price seats cell other) rows
-  pub first : All (λ other. has_sites seats cell other ≡ true → row_ahead other row ≡ true → placing.rise < rise price seats cell other) rows
+  pub least : AllByRecursion (λ other. has_sites seats cell other ≡ true → placing.rise ≤ rise price seats cell other) rows
+  pub first : AllByRecursion (λ other. has_sites seats cell other ≡ true → row_ahead other row ≡ true → placing.rise < rise price seats cell other) rows

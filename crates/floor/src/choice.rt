@@ -1,7 +1,7 @@
 // The row of least rise for a new cell.
 ghost use Rattle.std.specs.Prelude.{◌≡◌, ◌+◌, ◌-◌, ◌<◌, ◌≤◌, true, length, take, None, vec_len, vec_capacity};
 ghost use Rattle.std.specs.Option.{option_map};
-ghost use Rattle.std.specs.List.{AllByRecursion as All};
+ghost use Rattle.std.specs.List.{AllByRecursion};
 ghost use Rattle.row.specs.Records.{cell_fault};
 ghost use Rattle.row.specs.Sites.{row_sites, sites_cost};
 ghost use Rattle.row.specs.Stack.{Ready};
@@ -57,7 +57,7 @@ pub(crate) fn set_standing<M: Measure>(
     sites: &mut [u32],
 ) -> Stretch
     requires ordered { Ordered seat_ahead seats.now }
-    requires sited { All Sited seats.now }
+    requires sited { AllByRecursion Sited seats.now }
     requires few { length seats.now ≤ 1024 }
     requires room { length sites.old ≡ 1024 }
     requires ready { Ready row (cells_on row seats.now) }
@@ -74,7 +74,7 @@ pub(crate) fn set_standing<M: Measure>(
 // The cost of a row's sites, set with a new cell.
 fn cost_with<M: Measure>(measure: &M, seats: &[Seat], row: Row, cell: Cell) -> u64
     requires ordered { Ordered seat_ahead seats.now }
-    requires sited { All Sited seats.now }
+    requires sited { AllByRecursion Sited seats.now }
     requires passes { cell_fault cell ≡ None }
     requires few { length seats.now < 1024 }
     requires ready { Ready row (cells_on row (joined row cell seats.now)) }
@@ -89,7 +89,7 @@ fn cost_with<M: Measure>(measure: &M, seats: &[Seat], row: Row, cell: Cell) -> u
 // The rise of a row for a new cell: what its sites cost more once it is set with the cell, and what its line costs.
 fn rise_on<M: Measure>(measure: &M, seats: &[Seat], row: Row, cell: Cell) -> u64
     requires ordered { Ordered seat_ahead seats.now }
-    requires sited { All Sited seats.now }
+    requires sited { AllByRecursion Sited seats.now }
     requires passes { cell_fault cell ≡ None }
     requires few { length seats.now < 1024 }
     requires ready { Ready row (cells_on row (joined row cell seats.now)) }
@@ -137,7 +137,7 @@ fn consider<M: Measure>(
     best: Option<Choice>,
 ) -> Option<Choice>
     requires ordered { Ordered seat_ahead seats.now }
-    requires sited { All Sited seats.now }
+    requires sited { AllByRecursion Sited seats.now }
     requires passes { cell_fault cell ≡ None }
     requires few { length seats.now < 1024 }
     requires some { row.now.left ≤ row.now.right }
@@ -173,7 +173,7 @@ impl Seats {
     // Sets a row: only the sites of its own seats are rewritten.
     pub(crate) fn settle<M: Measure>(&mut self, measure: &M, row: Row)
         requires ordered { Ordered seat_ahead self.old.items.items }
-        requires sited { All Sited self.old.items.items }
+        requires sited { AllByRecursion Sited self.old.items.items }
         requires few { length self.old.items.items ≤ 1024 }
         requires ready { Ready row (cells_on row self.old.items.items) }
         ensures items { self.new.items.items ≡ settled (price measure.now) row self.old.items.items }
@@ -190,7 +190,7 @@ impl Seats {
     pub(crate) fn seat<M: Measure>(&mut self, measure: &M, row: Row, cell: Cell)
         requires ordered { Ordered seat_ahead self.old.items.items }
         requires then_ordered { Ordered seat_ahead (joined row cell self.old.items.items) }
-        requires then_sited { All Sited (joined row cell self.old.items.items) }
+        requires then_sited { AllByRecursion Sited (joined row cell self.old.items.items) }
         requires few { length (joined row cell self.old.items.items) ≤ 1024 }
         requires room { vec_len self.old.items < vec_capacity self.old.items }
         requires ready { Ready row (cells_on row (joined row cell self.old.items.items)) }

@@ -1,4 +1,6 @@
 // The floor: rows, the seats of the cells that stand on them, and the calls that change them.
+#![tactic(auto)]
+
 mod choice;
 mod floor;
 mod numbers;

@@ -1,6 +1,6 @@
 // The plain table of seats inside a floor.
 ghost use Rattle.std.specs.Prelude.{◌≡◌, ◌+◌, ◌-◌, ◌^◌, ◌<◌, ◌≤◌, ◌∷◌, ◌++◌, map, length, take, drop, None, vec_len, vec_capacity};
-ghost use Rattle.std.specs.List.{between, AllByRecursion as All};
+ghost use Rattle.std.specs.List.{between, AllByRecursion};
 ghost use Rattle.row.specs.Records.{cell_fault, widths};
 ghost use Rattle.row.specs.Sites.{sites_cost};
 ghost use Rattle.floor.specs.Calls.{seat_of};
@@ -88,7 +88,7 @@ pub(crate) fn new_seat(row: Row, cell: Cell) -> Seat
 // The stretch of a row's seats.
 pub(crate) fn stretch_of(seats: &[Seat], row: Row) -> Stretch
     requires ordered { Ordered seat_ahead seats.now }
-    requires sited { All Sited seats.now }
+    requires sited { AllByRecursion Sited seats.now }
     ensures { Spanned row seats.now result }
 {
     Stretch {
@@ -110,7 +110,7 @@ pub(crate) fn copy_cells(seats: &[Seat], cells: &mut [Cell])
 // The cost of the sites of some seats.
 pub(crate) fn sites_cost<M: Measure>(measure: &M, seats: &[Seat]) -> u64
     requires few { length seats.now ≤ 1024 }
-    requires sited { All Sited seats.now }
+    requires sited { AllByRecursion Sited seats.now }
     ensures value { result ≡ sites_cost (price measure.now) (map cell_of seats.now) (map site_of seats.now) }
     ensures bound { result ≤ 2 ^ 52 }
 {
@@ -128,7 +128,7 @@ pub(crate) fn sites_cost<M: Measure>(measure: &M, seats: &[Seat]) -> u64
 // The cells of a row at the front of `cells`; answers where its seats are.
 pub(crate) fn gather(seats: &[Seat], row: Row, cells: &mut [Cell]) -> Stretch
     requires ordered { Ordered seat_ahead seats.now }
-    requires sited { All Sited seats.now }
+    requires sited { AllByRecursion Sited seats.now }
     requires few { length seats.now ≤ length cells.old }
     ensures stretch { Spanned row seats.now result }
     ensures count { result.end - result.start ≡ length (cells_on row seats.now) }
@@ -161,7 +161,7 @@ fn gather_parts(seats: &[Seat], start: usize, at: usize, end: usize, cell: Cell,
 // The cells of a row with one cell more, in wanted order, at the front of `cells`; answers how many there are.
 pub(crate) fn gather_with(seats: &[Seat], row: Row, cell: Cell, cells: &mut [Cell]) -> usize
     requires ordered { Ordered seat_ahead seats.now }
-    requires sited { All Sited seats.now }
+    requires sited { AllByRecursion Sited seats.now }
     requires passes { cell_fault cell ≡ None }
     requires few { length seats.now < length cells.old }
     ensures count { result ≡ length (cells_on row (joined row cell seats.now)) }
@@ -189,7 +189,7 @@ fn widths_of(seats: &[Seat]) -> u64
 // Whether a row has sites for a cell beside the cells that stand there.
 pub(crate) fn has_sites(seats: &[Seat], row: &Row, cell: &Cell) -> bool
     requires ordered { Ordered seat_ahead seats.now }
-    requires sited { All Sited seats.now }
+    requires sited { AllByRecursion Sited seats.now }
     requires few { length seats.now ≤ 1024 }
     requires some { row.now.left ≤ row.now.right }
     ensures { result ≡ has_sites seats.now cell.now row.now }

@@ -1,4 +1,6 @@
 // The reader of jobs: a job's bytes, record by record.
+#![tactic(auto)]
+
 mod cursor;
 mod mark;
 mod opening;

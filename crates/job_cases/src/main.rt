@@ -1,5 +1,7 @@
 // Lists the jobs of a table, which stand on standard input in hexadecimal, one to a line.
 // A word `xN` says that the next word counts N times.
+#![tactic(auto)]
+
 ghost use Rattle.std.specs.Prelude.{◌<◌};
 
 use listing::{put_job, put_line};

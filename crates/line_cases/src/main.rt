@@ -1,4 +1,6 @@
 // Writes each kind of line into one buffer, at the least and the largest numbers, and prints it.
+#![tactic(auto)]
+
 use lines::{LEAST_BUFFER, LONGEST_NAME, Line};
 use std::io;
 use std::io::Write;

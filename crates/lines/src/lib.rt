@@ -1,4 +1,6 @@
 // Result lines: the text of each, and the call that writes one into a lent buffer.
+#![tactic(auto)]
+
 ghost use Rattle.std.specs.Prelude.{◌≡◌, ◌+◌, ◌≤◌, length, IfOk};
 ghost use Rattle.lines.specs.Texts.{text, name_of, name_bytes};
 ghost use Rattle.lines.specs.Writes.{number_of, write_answer, write_buffer};

@@ -1,4 +1,6 @@
 // Jobs as readable text: a line for the measure, one for each record, and one for the fault that ends them.
+#![tactic(auto)]
+
 mod listed;
 mod parts;
 mod words;

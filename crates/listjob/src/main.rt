@@ -1,4 +1,6 @@
 // Lists the records of a job from standard input as readable text.
+#![tactic(auto)]
+
 use listing::put_job;
 use std::io;
 use std::io::{Read, Write};

@@ -1,4 +1,6 @@
 // What a move costs: the trait `Measure`, and the two measures `Squared` and `Plain`.
+#![tactic(auto)]
+
 ghost use Rattle.std.specs.Prelude.{◌≡◌, ℕ};
 ghost use Rattle.measure.specs.Costs.{Fair, cost_of, rise_of, step_of};
 ghost use Rattle.measure.specs.Measures.{squared, plain};

@@ -3,7 +3,7 @@ use Rattle.std.proofs.Common.{◌≡◌, ℕ, ◌+◌, ◌-◌, ◌<◌, ◌≤�
 use Rattle.std.proofs.ByRecursion.{All-weaker}
 use Rattle.std.proofs.lemmas.Bool.{and_parts, leb-true, eqb-true}
 use Rattle.std.specs.Option.{option_map}
-use Rattle.std.specs.List.{AllByRecursion as All}
+use Rattle.std.specs.List.{AllByRecursion}
 use Rattle.row.specs.Records.{then, cell_fault, row_fault, before, widths}
 use Rattle.row.specs.Refusals.{comes_after, cells_refusal, set_refusal}
 use Rattle.row.specs.Settings.{EveryPair}
@@ -30,10 +30,10 @@ before_once a b p q = grind arith
 
 -- a cell before all others of a list
 abbrev Ahead : Cell → List Cell → Type 0
-Ahead c cs = All (λ d. before c d ≡ true) cs
+Ahead c cs = AllByRecursion (λ d. before c d ≡ true) cs
 
 -- cells that each come after the one before them
-ordered : (last : Cell) (cs : List Cell) → cells_refusal (Some last) cs ≡ None → All Passes cs × Ahead last cs × EveryPair (λ c d. before c d ≡ true) cs
+ordered : (last : Cell) (cs : List Cell) → cells_refusal (Some last) cs ≡ None → AllByRecursion Passes cs × Ahead last cs × EveryPair (λ c d. before c d ≡ true) cs
 ordered last [] e = (tt, tt, tt)
 ordered last (c ∷ cs) e =
     let parts = both _ _ e in
@@ -45,7 +45,7 @@ ordered last (c ∷ cs) e =
       (others.1, others.2),
     )
 
-all_ordered : (cs : List Cell) → cells_refusal None cs ≡ None → All Passes cs × EveryPair (λ c d. before c d ≡ true) cs
+all_ordered : (cs : List Cell) → cells_refusal None cs ≡ None → AllByRecursion Passes cs × EveryPair (λ c d. before c d ≡ true) cs
 all_ordered [] e = (tt, tt)
 all_ordered (c ∷ cs) e =
     let parts = both _ _ e in
@@ -58,7 +58,7 @@ pub record Accepted (row : Row) (cells : List Cell) (count : ℕ) : Type 0 where
   pub ranged : RangedRow row
   pub few : length cells ≤ 1024
   pub each : count ≡ length cells
-  pub pass : All Passes cells
+  pub pass : AllByRecursion Passes cells
   pub order : EveryPair (λ c d. before c d ≡ true) cells
   pub room : row.left + widths cells ≤ row.right
 

@@ -3,7 +3,7 @@ use Rattle.std.proofs.Common.{◌≡◌, ℕ, ◌+◌, ◌≤◌, List, [], ◌�
 use mathlib.Core.List.{reverse-cons}
 use Rattle.std.proofs.ByRecursion.{All-push}
 use Rattle.std.proofs.lemmas.List.{take_all, reverse-reverse}
-use Rattle.std.specs.List.{between, AllByRecursion as All}
+use Rattle.std.specs.List.{between, AllByRecursion}
 use Rattle.measure.specs.Costs.{Fair}
 use Rattle.row.specs.Clusters.{laid}
 use Rattle.row.specs.Settings.{Placed, placed, Within, Setting}
@@ -19,19 +19,19 @@ use Rattle.row.proofs.Subject.{row_cheapest}
 use Rattle.row.proofs.Theory.Settled.{Sound}
 
 -- what holds of each element holds of each backwards
-all_reverse : {X : Type 0} (P : X → Type 0) (xs : List X) → All P xs → All P (reverse xs)
+all_reverse : {X : Type 0} (P : X → Type 0) (xs : List X) → AllByRecursion P xs → AllByRecursion P (reverse xs)
 all_reverse P [] h = tt
-all_reverse P (x ∷ xs) h = subst (All P) (sym (reverse-cons x xs)) (All-push P (reverse xs) x (all_reverse P xs h.1) h.0)
+all_reverse P (x ∷ xs) h = subst (AllByRecursion P) (sym (reverse-cons x xs)) (All-push P (reverse xs) x (all_reverse P xs h.1) h.0)
 
 -- sites of cells within a row are places
-all_places : (row : Row) (cs : List Cell) (ys : List ℕ) → row.right ≤ 65535 → length ys ≡ length cs → All (Within row) (placed cs ys) → All (λ y. y ≤ 65535) ys
+all_places : (row : Row) (cs : List Cell) (ys : List ℕ) → row.right ≤ 65535 → length ys ≡ length cs → AllByRecursion (Within row) (placed cs ys) → AllByRecursion (λ y. y ≤ 65535) ys
 all_places row cs [] right each within = tt
 all_places row [] (y ∷ ys) right each within = absurd (omega arith)
 all_places row (c ∷ cs) (y ∷ ys) right each within = let end = within.0.1 in (omega arith, all_places row cs ys right (omega arith) within.1)
 
 module _ (f : ℕ → ℕ → ℕ → ℕ) (row : Row) (cells : List Cell) (n : ℕ) (fair : Fair f) (a : Accepted row cells n) where
   -- sound clusters lie within the row
-  sound_places : (ks : List Run) (past : ℕ) → Tiled cells past ks → Sound (lane f row) (map (cluster_of cells) ks) → All InPlaces ks
+  sound_places : (ks : List Run) (past : ℕ) → Tiled cells past ks → Sound (lane f row) (map (cluster_of cells) ks) → AllByRecursion InPlaces ks
   sound_places [] past tiled sound = tt
   sound_places (k ∷ ks) past tiled sound =
       let to = sound.0.sure.to in
@@ -52,11 +52,11 @@ module _ (f : ℕ → ℕ → ℕ → ℕ) (row : Row) (cells : List Cell) (n : 
       pub tiled_first : Tiled cells (length cells) (reverse (take m runs))
       tiled_first = subst (λ k. Tiled cells (length cells) (reverse (take k runs))) (sym same) h.tiled
 
-      pub in_places : All InPlaces (take m runs)
+      pub in_places : AllByRecursion InPlaces (take m runs)
       in_places =
           let sound : Sound (lane f row) (stack_of cells (take count runs)) = subst (Sound (lane f row)) (sym h.clusters) (prefix_sound f row cells n fair a (length cells)) in
-          subst (λ k. All InPlaces (take k runs)) (sym same)
-          (subst (All InPlaces) (reverse-reverse (take count runs)) (all_reverse InPlaces (reverse (take count runs)) (sound_places (reverse (take count runs)) (length cells) h.tiled sound)))
+          subst (λ k. AllByRecursion InPlaces (take k runs)) (sym same)
+          (subst (AllByRecursion InPlaces) (reverse-reverse (take count runs)) (all_reverse InPlaces (reverse (take count runs)) (sound_places (reverse (take count runs)) (length cells) h.tiled sound)))
 
       -- the sites laid out are the row's
       pub laid_are : laid abut (stack_of cells (take m runs)) ≡ row_sites f row cells
@@ -65,5 +65,5 @@ module _ (f : ℕ → ℕ → ℕ → ℕ) (row : Row) (cells : List Cell) (n : 
   pub row_each : length (row_sites f row cells) ≡ length cells
   row_each = (row_cheapest f row fair cells n a).setting.each
 
-  pub row_places : All (λ y. y ≤ 65535) (row_sites f row cells)
+  pub row_places : AllByRecursion (λ y. y ≤ 65535) (row_sites f row cells)
   row_places = all_places row cells (row_sites f row cells) a.ranged.right row_each (row_cheapest f row fair cells n a).setting.legal.0

@@ -3,7 +3,7 @@ use Rattle.std.proofs.Common.{◌≡◌, ℕ, ◌+◌, ◌-◌, ◌<◌, ◌≤�
 use mathlib.Core.Path.{fun_ext}
 use lib.Signed.{le_z}
 use Rattle.std.proofs.lemmas.Int.{ints}
-use Rattle.std.specs.List.{AllByRecursion as All}
+use Rattle.std.specs.List.{AllByRecursion}
 use Rattle.measure.specs.Costs.{Fair}
 use Rattle.row.specs.Clusters.{Cluster, push, settle, laid}
 use Rattle.row.specs.Records.{widths}
@@ -93,7 +93,7 @@ module _ (f : ℕ → ℕ → ℕ → ℕ) (row : Row) where
       let law = fair.bends c.wanted.site c.weight p q up (in_ranges c (q + 1) passes (omega arith)) in
       omega (arith, ints)
 
-  pub all_bend : Fair f → row.right ≤ 65535 → (cs : List Cell) → All Passes cs → AllBend R cs
+  pub all_bend : Fair f → row.right ≤ 65535 → (cs : List Cell) → AllByRecursion Passes cs → AllBend R cs
   all_bend fair right [] passed = tt
   all_bend fair right (c ∷ cs) passed = (bends fair right c passed.0, all_bend fair right cs passed.1)
 

@@ -3,7 +3,7 @@ use Rattle.std.proofs.Common.{◌≡◌, ℕ, ◌+◌, ◌-◌, ◌<◌, ◌≤�
 use Rattle.std.proofs.lemmas.List.Edits.{between_none, between_more, length-between}
 use Rattle.std.proofs.ByRecursion.{All-take, All-drop}
 use Rattle.std.proofs.lemmas.List.{take-append-drop, take-take, drop-take, drop-drop, length-take, length-drop}
-use Rattle.std.specs.List.{between, AllByRecursion as All}
+use Rattle.std.specs.List.{between, AllByRecursion}
 use Rattle.row.specs.Records.{widths}
 use Rattle.row.specs.Stack.{Passes, Follows, part}
 use Rattle.row.specs.declared.Cell.{Cell}
@@ -55,7 +55,7 @@ widths-between xs a b =
 -- what is known of a part of cells that `set` accepts
 pub record PartKnown (row : Row) (cs : List Cell) : Type 0 where
   pub few : length cs ≤ 1024
-  pub pass : All Passes cs
+  pub pass : AllByRecursion Passes cs
   pub room : row.left + widths cs ≤ row.right
 
 pub part_known : {row : Row} {cells : List Cell} {count : ℕ} → Accepted row cells count → (a b : ℕ) → PartKnown row (between a b cells)

@@ -3,7 +3,7 @@ use Rattle.std.proofs.Common.{◌≡◌, ℕ, ◌+◌, ◌^◌, ◌<◌, ◌≤�
 use Rattle.std.proofs.ByRecursion.{All-get_or}
 use Rattle.std.proofs.lemmas.List.{at_drop_more, at_drop_all}
 use Rattle.std.proofs.lemmas.Int.{ints}
-use Rattle.std.specs.List.{AllByRecursion as All}
+use Rattle.std.specs.List.{AllByRecursion}
 use Rattle.measure.specs.Costs.{Fair, InRange, step_of}
 use Rattle.row.specs.Records.{widths}
 use Rattle.row.specs.Sites.{cluster_rise, climbs}
@@ -26,7 +26,7 @@ step_bounds {f} fair c p passes low =
 -- Facts of one turn of a loop over cells, at the cell with index i.
 module _ (cells : List Cell) (i : ℕ) (within : i < length cells) where
   -- the cell's ranges
-  pub ranged_at : All Passes cells → Ranged (get_or cells i no_cell)
+  pub ranged_at : AllByRecursion Passes cells → Ranged (get_or cells i no_cell)
   ranged_at passed = ranged (get_or cells i no_cell) (All-get_or Passes cells i no_cell within passed)
 
   -- the widths that are left, one cell on
@@ -38,14 +38,14 @@ module _ (cells : List Cell) (i : ℕ) (within : i < length cells) where
   rise_more f x = at_drop_more (λ cs. cluster_rise f cs x) cells i no_cell within
 
   -- the bounds of the cell's step at a site from which what is left fits the places
-  pub step_bounds_at : {f : ℕ → ℕ → ℕ → ℕ} → Fair f → All Passes cells → (x : ℕ) → x + widths (drop i cells) ≤ 65535 → (neg_ℤ (pos (2 ^ 42)) ≤ℤ step_of f (get_or cells i no_cell).wanted.site (get_or cells i no_cell).weight x) × (step_of f (get_or cells i no_cell).wanted.site (get_or cells i no_cell).weight x ≤ℤ pos (2 ^ 42))
+  pub step_bounds_at : {f : ℕ → ℕ → ℕ → ℕ} → Fair f → AllByRecursion Passes cells → (x : ℕ) → x + widths (drop i cells) ≤ 65535 → (neg_ℤ (pos (2 ^ 42)) ≤ℤ step_of f (get_or cells i no_cell).wanted.site (get_or cells i no_cell).weight x) × (step_of f (get_or cells i no_cell).wanted.site (get_or cells i no_cell).weight x ≤ℤ pos (2 ^ 42))
   step_bounds_at fair passed x inside =
       let r = ranged_at passed in
       let more = widths_more in
       step_bounds fair (get_or cells i no_cell) x (All-get_or Passes cells i no_cell within passed) (omega arith)
 
 -- the rise of abutting cells never falls as they go right
-pub rise_mono : {f : ℕ → ℕ → ℕ → ℕ} → Fair f → (cs : List Cell) (t u : ℕ) → All Passes cs → t ≤ u → u + widths cs ≤ 65535 → cluster_rise f cs t ≤ℤ cluster_rise f cs u
+pub rise_mono : {f : ℕ → ℕ → ℕ → ℕ} → Fair f → (cs : List Cell) (t u : ℕ) → AllByRecursion Passes cs → t ≤ u → u + widths cs ≤ 65535 → cluster_rise f cs t ≤ℤ cluster_rise f cs u
 rise_mono fair [] t u passed up inside = omega (arith, ints)
 rise_mono {f} fair (c ∷ cs) t u passed up inside =
     let r = ranged c passed.0 in
@@ -54,5 +54,5 @@ rise_mono {f} fair (c ∷ cs) t u passed up inside =
     omega (arith, ints)
 
 -- so what climbs goes on to climb
-pub climbs_on : {f : ℕ → ℕ → ℕ → ℕ} → Fair f → (cs : List Cell) (t u : ℕ) → All Passes cs → t ≤ u → u + widths cs ≤ 65535 → climbs f cs t ≡ true → climbs f cs u ≡ true
+pub climbs_on : {f : ℕ → ℕ → ℕ → ℕ} → Fair f → (cs : List Cell) (t u : ℕ) → AllByRecursion Passes cs → t ≤ u → u + widths cs ≤ 65535 → climbs f cs t ≡ true → climbs f cs u ≡ true
 climbs_on fair cs t u passed up inside at_t = let more = rise_mono fair cs t u passed up inside in grind (arith, ints)

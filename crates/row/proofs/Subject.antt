@@ -2,7 +2,7 @@
 use Rattle.std.proofs.Common.{◌≡◌, ℕ, suc, ◌+◌, ◌<◌, ◌≤◌, true, List, [], ◌∷◌, length, sym, refl, ap, ◌∙◌, subst, inl, inr, ⊎_elim, arith}
 use Rattle.std.proofs.ByRecursion.{All-weaker}
 use Rattle.std.proofs.lemmas.Bool.{cases_lt}
-use Rattle.std.specs.List.{AllZip, AllByRecursion as All}
+use Rattle.std.specs.List.{AllZip, AllByRecursion}
 use Rattle.measure.specs.Costs.{Fair}
 use Rattle.row.specs.Records.{before, widths}
 use Rattle.row.specs.Settings.{Placed, placed, EveryPair, Covers, Within, Clear, Legal, Rising, InWantedOrder, Setting, Cheapest}
@@ -17,12 +17,12 @@ use Rattle.row.proofs.Theory.Packed.{Lane, next, Chain, NotRight, span, cost}
 use Rattle.row.proofs.Theory.Cheapest.{Answer, settled_answer}
 
 -- two facts of each element give a third
-all_with : {X : Type 0} (P Q S : X → Type 0) → ((x : X) → P x → Q x → S x) → (xs : List X) → All P xs → All Q xs → All S xs
+all_with : {X : Type 0} (P Q S : X → Type 0) → ((x : X) → P x → Q x → S x) → (xs : List X) → AllByRecursion P xs → AllByRecursion Q xs → AllByRecursion S xs
 all_with P Q S give [] ps qs = tt
 all_with P Q S give (x ∷ xs) ps qs = (give x ps.0 qs.0, all_with P Q S give xs ps.1 qs.1)
 
 -- what holds of each cell holds of each placed cell
-all_placed : (P : Cell → Type 0) (cs : List Cell) (ys : List ℕ) → All P cs → All (λ p. P p.cell) (placed cs ys)
+all_placed : (P : Cell → Type 0) (cs : List Cell) (ys : List ℕ) → AllByRecursion P cs → AllByRecursion (λ p. P p.cell) (placed cs ys)
 all_placed P [] ys ps = tt
 all_placed P (c ∷ cs) [] ps = tt
 all_placed P (c ∷ cs) (y ∷ ys) ps = (ps.0, all_placed P cs ys ps.1)
@@ -49,7 +49,7 @@ module _ (f : ℕ → ℕ → ℕ → ℕ) (row : Row) where
   R = lane f row
 
   -- every site of a chain is at or after its start
-  chain_from : (cs : List Cell) (ys : List ℕ) (lo : ℕ) → Chain R lo cs ys → All (λ p. lo ≤ p.site) (placed cs ys)
+  chain_from : (cs : List Cell) (ys : List ℕ) (lo : ℕ) → Chain R lo cs ys → AllByRecursion (λ p. lo ≤ p.site) (placed cs ys)
   chain_from [] ys lo chain = tt
   chain_from (c ∷ cs) [] lo chain = tt
   chain_from (c ∷ cs) (y ∷ ys) lo chain =
@@ -63,7 +63,7 @@ module _ (f : ℕ → ℕ → ℕ → ℕ) (row : Row) where
   chain_length (c ∷ cs) (y ∷ ys) lo chain = ap suc (chain_length cs ys (y + next R c cs) chain.2)
 
   -- a chain that starts in the row lies within it
-  chain_within : (cs : List Cell) (ys : List ℕ) (lo : ℕ) → row.left ≤ lo → Chain R lo cs ys → All (Within row) (placed cs ys)
+  chain_within : (cs : List Cell) (ys : List ℕ) (lo : ℕ) → row.left ≤ lo → Chain R lo cs ys → AllByRecursion (Within row) (placed cs ys)
   chain_within [] ys lo low chain = tt
   chain_within (c ∷ cs) [] lo low chain = tt
   chain_within (c ∷ cs) (y ∷ ys) lo low chain =
@@ -71,7 +71,7 @@ module _ (f : ℕ → ℕ → ℕ → ℕ) (row : Row) where
       ((omega arith, chain.1), chain_within cs ys (y + next R c cs) (omega arith) chain.2)
 
   -- what starts after the end of c
-  ends : (c : Cell) (cs : List Cell) (y : ℕ) (ys : List ℕ) → Chain R (y + next R c cs) cs ys → All (λ q. y + c.width ≤ q.site) (placed cs ys)
+  ends : (c : Cell) (cs : List Cell) (y : ℕ) (ys : List ℕ) → Chain R (y + next R c cs) cs ys → AllByRecursion (λ q. y + c.width ≤ q.site) (placed cs ys)
   ends c cs y ys chain =
       let n = next_is f row c cs in
       All-weaker (λ q. y + next R c cs ≤ q.site) (λ q. y + c.width ≤ q.site) (λ q h. omega arith) (placed cs ys) (chain_from cs ys (y + next R c cs) chain)
@@ -83,7 +83,7 @@ module _ (f : ℕ → ℕ → ℕ → ℕ) (row : Row) where
       let p : Placed = record { cell = c; site = y } in
       (All-weaker (λ q. y + c.width ≤ q.site) (Clear p) (clear_after p) (placed cs ys) (ends c cs y ys chain.2), chain_clear cs ys (y + next R c cs) chain.2)
 
-  chain_rises : (cs : List Cell) (ys : List ℕ) (lo : ℕ) → All Passes cs → EveryPair (λ c d. before c d ≡ true) cs → Chain R lo cs ys → InWantedOrder (placed cs ys)
+  chain_rises : (cs : List Cell) (ys : List ℕ) (lo : ℕ) → AllByRecursion Passes cs → EveryPair (λ c d. before c d ≡ true) cs → Chain R lo cs ys → InWantedOrder (placed cs ys)
   chain_rises [] ys lo passed order chain = tt
   chain_rises (c ∷ cs) [] lo passed order chain = tt
   chain_rises (c ∷ cs) (y ∷ ys) lo passed order chain =
@@ -94,7 +94,7 @@ module _ (f : ℕ → ℕ → ℕ → ℕ) (row : Row) where
       )
 
   -- a legal chain of cells in wanted order is a setting
-  pub chain_setting : (cs : List Cell) (ys : List ℕ) → All Passes cs → EveryPair (λ c d. before c d ≡ true) cs → Chain R row.left cs ys → Setting row cs ys
+  pub chain_setting : (cs : List Cell) (ys : List ℕ) → AllByRecursion Passes cs → EveryPair (λ c d. before c d ≡ true) cs → Chain R row.left cs ys → Setting row cs ys
   chain_setting cs ys passed order chain = record {
     each = chain_length cs ys row.left chain;
     legal = (chain_within cs ys row.left (omega arith) chain, chain_clear cs ys row.left chain);
@@ -102,7 +102,7 @@ module _ (f : ℕ → ℕ → ℕ → ℕ) (row : Row) where
   }
 
   -- and a setting of cells in wanted order is a legal chain
-  setting_chain_from : (cs : List Cell) (ys : List ℕ) (lo : ℕ) → length ys ≡ length cs → All Passes cs → EveryPair (λ c d. before c d ≡ true) cs → Legal row (placed cs ys) → InWantedOrder (placed cs ys) → All (λ p. lo ≤ p.site) (placed cs ys) → Chain R lo cs ys
+  setting_chain_from : (cs : List Cell) (ys : List ℕ) (lo : ℕ) → length ys ≡ length cs → AllByRecursion Passes cs → EveryPair (λ c d. before c d ≡ true) cs → Legal row (placed cs ys) → InWantedOrder (placed cs ys) → AllByRecursion (λ p. lo ≤ p.site) (placed cs ys) → Chain R lo cs ys
   setting_chain_from [] [] lo e passed order legal rises from = tt
   setting_chain_from [] (y ∷ ys) lo e passed order legal rises from = omega arith
   setting_chain_from (c ∷ cs) [] lo e passed order legal rises from = omega arith
@@ -117,7 +117,7 @@ module _ (f : ℕ → ℕ → ℕ → ℕ) (row : Row) where
       (λ q a b. let h = after_clear p q b.1 a.0 a.1 b.0 in omega arith) rest both known in
       (from.0, legal.0.0.1, setting_chain_from cs ys (y + next R c cs) (omega arith) passed.1 order.1 (legal.0.1, legal.1.1) rises.1 after)
 
-  pub setting_chain : (cs : List Cell) (ys : List ℕ) → All Passes cs → EveryPair (λ c d. before c d ≡ true) cs → Setting row cs ys → Chain R row.left cs ys
+  pub setting_chain : (cs : List Cell) (ys : List ℕ) → AllByRecursion Passes cs → EveryPair (λ c d. before c d ≡ true) cs → Setting row cs ys → Chain R row.left cs ys
   setting_chain cs ys passed order s =
       setting_chain_from cs ys row.left s.each passed order s.legal s.in_order
       (All-weaker (Within row) (λ p. row.left ≤ p.site) (λ p h. h.0) (placed cs ys) s.legal.0)

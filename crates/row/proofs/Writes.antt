@@ -2,7 +2,7 @@
 use Rattle.std.proofs.Common.{◌≡◌, ℕ, ◌+◌, ◌^◌, ◌<◌, ◌≤◌, List, [], ◌∷◌, ◌++◌, length, get_or, take, drop, set, sym, ap, ◌∙◌, append_assoc, append-nil, arith}
 use Rattle.std.proofs.ByRecursion.{All-get_or}
 use Rattle.std.proofs.lemmas.List.{at_drop_more, at_drop_all, drop_more, take_more_set, take_all}
-use Rattle.std.specs.List.{AllByRecursion as All}
+use Rattle.std.specs.List.{AllByRecursion}
 use Rattle.measure.specs.Costs.{Fair}
 use Rattle.row.specs.Sites.{abut, sites_cost}
 use Rattle.row.specs.Stack.{Passes}
@@ -36,10 +36,10 @@ module _ (cells : List Cell) (sites : List ℕ) (i : ℕ) (each : length sites �
   cost_all f past = at_drop_all (λ cs. sites_cost f cs (drop i sites)) cells i past
 
   -- a site that is read lies within the places
-  pub place_at : i < length cells → All (λ x. x ≤ 65535) sites → get_or sites i 0 ≤ 65535
+  pub place_at : i < length cells → AllByRecursion (λ x. x ≤ 65535) sites → get_or sites i 0 ≤ 65535
   place_at within inside = All-get_or (λ x. x ≤ 65535) sites i 0 (omega arith) inside
 
   -- what one cell costs there
-  pub price_bound : {f : ℕ → ℕ → ℕ → ℕ} → Fair f → i < length cells → All Passes cells → All (λ x. x ≤ 65535) sites → f (get_or cells i no_cell).wanted.site (get_or cells i no_cell).weight (get_or sites i 0) ≤ 2 ^ 42
+  pub price_bound : {f : ℕ → ℕ → ℕ → ℕ} → Fair f → i < length cells → AllByRecursion Passes cells → AllByRecursion (λ x. x ≤ 65535) sites → f (get_or cells i no_cell).wanted.site (get_or cells i no_cell).weight (get_or sites i 0) ≤ 2 ^ 42
   price_bound fair within passed inside =
       fair.bounded _ _ _ (in_ranges (get_or cells i no_cell) (get_or sites i 0) (All-get_or Passes cells i no_cell within passed) (place_at within inside))

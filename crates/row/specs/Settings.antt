@@ -6,7 +6,7 @@
 --   Setting           a site for each cell that is legal and in wanted order
 --   Cheapest          a setting; every other setting costs at least as much, and one that costs the same has no cell further left
 use Rattle.std.specs.Prelude.{◌≡◌, ℕ, ◌+◌, ◌<◌, ◌≤◌, true, List, [], ◌∷◌, length}
-use Rattle.std.specs.List.{AllZip, AllByRecursion as All}
+use Rattle.std.specs.List.{AllZip, AllByRecursion}
 use Rattle.row.specs.Records.{before}
 use Rattle.row.specs.Sites.{sites_cost}
 use Rattle.row.specs.declared.Cell.{Cell}
@@ -26,7 +26,7 @@ placed (c ∷ cs) (x ∷ xs) = record { cell = c; site = x } ∷ placed cs xs
 -- a relation between any two of a list, the earlier one first
 abbrev pub EveryPair : {X : Type 0} → (X → X → Type 0) → List X → Type 0
 EveryPair R [] = Unit {0}
-EveryPair R (x ∷ xs) = All (R x) xs × EveryPair R xs
+EveryPair R (x ∷ xs) = AllByRecursion (R x) xs × EveryPair R xs
 
 -- a placed cell covers the sites from its own to its own + width - 1
 abbrev pub Covers : Placed → ℕ → Type 0
@@ -41,7 +41,7 @@ abbrev pub Clear : Placed → Placed → Type 0
 Clear p q = (s : ℕ) → Covers p s → Covers q s → ⊥
 
 abbrev pub Legal : Row → List Placed → Type 0
-Legal row ps = All (Within row) ps × EveryPair Clear ps
+Legal row ps = AllByRecursion (Within row) ps × EveryPair Clear ps
 
 -- the one that is wanted first has the smaller site
 abbrev pub Rising : Placed → Placed → Type 0

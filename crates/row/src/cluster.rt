@@ -1,6 +1,6 @@
 // Clusters of a row's cells: their rise, and their best site.
 ghost use Rattle.std.specs.Prelude.{◌≡◌, ◌+◌, ◌-◌, ◌^◌, ◌<◌, ◌≤◌, length};
-ghost use Rattle.std.specs.List.{AllByRecursion as All};
+ghost use Rattle.std.specs.List.{AllByRecursion};
 ghost use Rattle.row.specs.Records.{widths};
 ghost use Rattle.row.specs.Sites.{cluster_rise, climbs, least};
 ghost use Rattle.row.specs.Stack.{Passes, Ready, AtBest, Follows, Bracketed, Holds};
@@ -30,7 +30,7 @@ impl Cluster {
 // The rise of cells that abut from `start` on.
 fn rise_of<M: Measure>(measure: &M, cells: &[Cell], start: u32) -> i64
     requires few { length cells.now ≤ 1024 }
-    requires passed { All Passes cells.now }
+    requires passed { AllByRecursion Passes cells.now }
     requires inside { start + widths cells.now ≤ 65535 }
     ensures { result ≡ cluster_rise (price measure.now) cells.now start }
 {
@@ -46,7 +46,7 @@ fn rise_of<M: Measure>(measure: &M, cells: &[Cell], start: u32) -> i64
 // The least start from `low` to `high` that is `high` or where the rise of the cells is at least 0.
 fn best_between<M: Measure>(measure: &M, cells: &[Cell], low: u32, high: u32) -> u32
     requires few { length cells.now ≤ 1024 }
-    requires passed { All Passes cells.now }
+    requires passed { AllByRecursion Passes cells.now }
     requires some { low ≤ high }
     requires inside { high + widths cells.now ≤ 65535 }
     ensures { result ≡ least (climbs (price measure.now) cells.now) low (high - low) }

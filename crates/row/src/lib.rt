@@ -1,4 +1,6 @@
 // Cells and rows, wanted order, and `set`, which sets one row of cells.
+#![tactic(auto)]
+
 mod check;
 mod cluster;
 mod order;

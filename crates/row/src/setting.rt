@@ -1,6 +1,6 @@
 // Setting one row: the checks, the clusters, the sites and their cost.
 ghost use Rattle.std.specs.Prelude.{◌≡◌, ◌+◌, ◌≤◌, ◌++◌, reverse, length, take, drop, IfOk};
-ghost use Rattle.std.specs.List.{AllByRecursion as All};
+ghost use Rattle.std.specs.List.{AllByRecursion};
 ghost use Rattle.row.specs.Clusters.{laid};
 ghost use Rattle.row.specs.Records.{widths};
 ghost use Rattle.row.specs.Settings.{Cheapest};
@@ -43,7 +43,7 @@ fn lay_one(cells: &[Cell], cluster: Cluster, sites: &mut [u32])
 fn lay_out(cells: &[Cell], clusters: &[Cluster], sites: &mut [u32])
     requires each { length sites.old ≡ length cells.now }
     requires tiled { Tiled cells.now (length cells.now) (reverse clusters.now) }
-    requires inside { All InPlaces clusters.now }
+    requires inside { AllByRecursion InPlaces clusters.now }
     ensures { sites.new ≡ laid abut (stack_of cells.now clusters.now) }
 {
     for i in (0..clusters.len()).rev() {
@@ -54,9 +54,9 @@ fn lay_out(cells: &[Cell], clusters: &[Cluster], sites: &mut [u32])
 // The cost of cells at sites.
 fn cost_of<M: Measure>(measure: &M, cells: &[Cell], sites: &[u32]) -> u64
     requires few { length cells.now ≤ 1024 }
-    requires passed { All Passes cells.now }
+    requires passed { AllByRecursion Passes cells.now }
     requires each { length sites.now ≡ length cells.now }
-    requires inside { All (λ x. x ≤ 65535) sites.now }
+    requires inside { AllByRecursion (λ x. x ≤ 65535) sites.now }
     ensures { result ≡ sites_cost (price measure.now) cells.now sites.now }
 {
     let mut sum: u64 = 0;

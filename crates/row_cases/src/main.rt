@@ -2,6 +2,8 @@
 // the cost and the sites, or the refusal's number and whether the sites stayed as they were.
 // A line is: measure (0 squared, 1 plain), line, left, right, length of the sites' buffer, then five numbers a cell:
 // number, wanted site, wanted line, width, weight.
+#![tactic(auto)]
+
 use anyhow::anyhow;
 use measure::{Plain, Squared};
 use row::{Cell, Refusal, Row, Spot, set};

@@ -1,4 +1,6 @@
 // Reads one row and its cells from standard input, sets the row, and prints each cell's site and the cost.
+#![tactic(auto)]
+
 mod answer;
 mod forms;
 mod lines;

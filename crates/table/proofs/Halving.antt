@@ -2,19 +2,19 @@
 use Rattle.std.proofs.Common.{◌≡◌, ℕ, zero, suc, ◌+◌, ◌<◌, ◌≤◌, Bool, true, false, cond, List, [], ◌∷◌, length, get_or, sym, refl, ap, ◌∙◌, inl, inr, ⊎_elim, arith}
 use Rattle.std.proofs.ByRecursion.{All-get_or}
 use Rattle.std.proofs.lemmas.Bool.{both_ways}
-use Rattle.std.specs.List.{prefix_len, AllByRecursion as All}
+use Rattle.std.specs.List.{prefix_len, AllByRecursion}
 use Rattle.table.specs.Order.{Ordered, rank_of}
 
 module _ {X : Type 0} (ahead : X → X → Bool) (chain : (a b c : X) → ahead a b ≡ true → ahead b c ≡ true → ahead a c ≡ true) (key : X) where
   -- where a record is not ahead of the key, those behind it are not
-  behind : (x : X) (xs : List X) → All (λ y. ahead x y ≡ true) xs → ahead x key ≡ false → (i : ℕ) (d : X) → i < length xs → ahead (get_or xs i d) key ≡ false
+  behind : (x : X) (xs : List X) → AllByRecursion (λ y. ahead x y ≡ true) xs → ahead x key ≡ false → (i : ℕ) (d : X) → i < length xs → ahead (get_or xs i d) key ≡ false
   behind x xs after fails i d within = go (ahead (get_or xs i d) key) refl
     where
       go : (b : Bool) → ahead (get_or xs i d) key ≡ b → ahead (get_or xs i d) key ≡ false
       go false e = e
       go true e = absurd (both_ways (ahead x key) fails (chain x (get_or xs i d) key (All-get_or (λ y. ahead x y ≡ true) xs i d within after) e))
 
-  above : (x : X) (xs : List X) (i : ℕ) (d : X) (b : Bool) → ahead x key ≡ b → All (λ y. ahead x y ≡ true) xs → i < length xs → ahead (get_or xs i d) key ≡ true → i < rank_of ahead xs key → suc i < cond b (1 + rank_of ahead xs key) 0
+  above : (x : X) (xs : List X) (i : ℕ) (d : X) (b : Bool) → ahead x key ≡ b → AllByRecursion (λ y. ahead x y ≡ true) xs → i < length xs → ahead (get_or xs i d) key ≡ true → i < rank_of ahead xs key → suc i < cond b (1 + rank_of ahead xs key) 0
   above x xs i d true e after within passes more = omega arith
   above x xs i d false e after within passes more = absurd (both_ways (ahead (get_or xs i d) key) (behind x xs after e i d within) passes)
 

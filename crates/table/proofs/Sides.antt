@@ -4,7 +4,7 @@ use Rattle.std.proofs.ByRecursion.{All-from_get_or}
 use Rattle.std.proofs.lemmas.List.{get_or-take, get_or-drop, length-take, length-drop}
 use Rattle.std.proofs.lemmas.List.Sums.{prefix_len-le-length}
 use Rattle.std.proofs.lemmas.Bool.{cases_Bool}
-use Rattle.std.specs.List.{AllByRecursion as All}
+use Rattle.std.specs.List.{AllByRecursion}
 use Rattle.table.specs.Order.{Ordered, rank_of}
 use Rattle.table.proofs.Halving.{rank_above, rank_below}
 
@@ -21,7 +21,7 @@ module _ {X : Type 0} (ahead : X → X → Bool) (chain : (a b c : X) → ahead 
       ⊎_elim (λ passes. let before = rank_above ahead chain key xs ordered i d within passes in absurd (omega arith)) (λ no. no) (cases_Bool (ahead (get_or xs i d) key))
 
   -- the records before the place are ahead of the key
-  pub rank_front : All (λ x. ahead x key ≡ true) (take (rank_of ahead xs key) xs)
+  pub rank_front : AllByRecursion (λ x. ahead x key ≡ true) (take (rank_of ahead xs key) xs)
   rank_front =
       let r = rank_of ahead xs key in
       let short = length-take r xs in
@@ -30,7 +30,7 @@ module _ {X : Type 0} (ahead : X → X → Bool) (chain : (a b c : X) → ahead 
       (λ i within. ap (λ x. ahead x key) (get_or-take r xs i d (omega arith)) ∙ one_front i (omega arith) (omega arith))
 
   -- those from it on are not
-  pub rank_back : All (λ x. ahead x key ≡ false) (drop (rank_of ahead xs key) xs)
+  pub rank_back : AllByRecursion (λ x. ahead x key ≡ false) (drop (rank_of ahead xs key) xs)
   rank_back =
       let r = rank_of ahead xs key in
       let short = length-drop r xs in

@@ -2,12 +2,12 @@
 --   Ordered ahead xs       every record is ahead of all that follow it
 --   rank_of ahead xs key   how many records, from the first on, are ahead of the key: where the key stands, or would stand, in an ordered table
 use Rattle.std.specs.Prelude.{◌≡◌, ℕ, Bool, true, List, [], ◌∷◌}
-use Rattle.std.specs.List.{prefix_len, AllByRecursion as All}
+use Rattle.std.specs.List.{prefix_len, AllByRecursion}
 
 -- every record is ahead of all that follow it
 abbrev pub Ordered : {X : Type 0} → (X → X → Bool) → List X → Type 0
 Ordered ahead [] = Unit {0}
-Ordered ahead (x ∷ xs) = All (λ y. ahead x y ≡ true) xs × Ordered ahead xs
+Ordered ahead (x ∷ xs) = AllByRecursion (λ y. ahead x y ≡ true) xs × Ordered ahead xs
 
 -- how many records, from the first on, are ahead of the key
 abbrev pub rank_of : {X : Type 0} → (X → X → Bool) → List X → X → ℕ

@@ -1,4 +1,6 @@
 // Ordered tables: records that have a rank, and the one search for a record's place among them.
+#![tactic(auto)]
+
 ghost use Rattle.std.specs.Prelude.{◌≡◌, ◌≤◌, Bool, true, length};
 ghost use Rattle.table.specs.Order.{Ordered, rank_of};
 

@@ -1,5 +1,5 @@
 use Rattle.std.proofs.Common.{◌≡◌, ◌-◌, ◌≤◌, length, sym, ap, ◌∙◌, subst, arith}
-use Rattle.std.specs.List.{AllByRecursion as All}
+use Rattle.std.specs.List.{AllByRecursion}
 use Rattle.row.specs.Sites.{row_sites, sites_cost}
 use Rattle.row.proofs.Accepted.{accepted}
 use Rattle.row.proofs.Finished.{tiled_first, in_places, laid_are, row_each, row_places}
@@ -30,7 +30,7 @@ cost-of-requires g c =
       few = a.few;
       passed = a.pass;
       each = ap length written ∙ row_each f c.args.row cells _ fair a;
-      inside = subst (All (λ x. x ≤ 65535)) (sym written) (row_places f c.args.row cells _ fair a);
+      inside = subst (AllByRecursion (λ x. x ≤ 65535)) (sym written) (row_places f c.args.row cells _ fair a);
     }
 
 pub returns : goal.returns
