@@ -40,8 +40,8 @@ const NO_CELL: Cell = Cell {
 pub(crate) fn set_ready<M: Measure>(measure: &M, row: Row, cells: &[Cell], sites: &mut [u32]) -> u64
     requires ready { Ready row cells.now }
     requires each { length sites.old ≡ length cells.now }
-    ensures answer { result ≡ sites_cost (price measure.now) cells.now (row_sites (price measure.now) row cells.now) }
-    ensures after { sites.new ≡ row_sites (price measure.now) row cells.now }
+    ensures answer { result ≡ sites_cost (M.price measure.now) cells.now (row_sites (M.price measure.now) row cells.now) }
+    ensures after { sites.new ≡ row_sites (M.price measure.now) row cells.now }
 {
     match set(measure, row, cells, sites) {
         Ok(cost) => cost,
@@ -62,7 +62,7 @@ pub(crate) fn set_standing<M: Measure>(
     requires room { length sites.old ≡ 1024 }
     requires ready { Ready row (cells_on row seats.now) }
     ensures stretch { Spanned row seats.now result }
-    ensures sites { take (result.end - result.start) sites.new ≡ row_sites (price measure.now) row (cells_on row seats.now) }
+    ensures sites { take (result.end - result.start) sites.new ≡ row_sites (M.price measure.now) row (cells_on row seats.now) }
 {
     let mut cells = [NO_CELL; 1_024];
     let stretch = gather(seats, row, &mut cells);
@@ -78,7 +78,7 @@ fn cost_with<M: Measure>(measure: &M, seats: &[Seat], row: Row, cell: Cell) -> u
     requires passes { cell_fault cell ≡ None }
     requires few { length seats.now < 1024 }
     requires ready { Ready row (cells_on row (joined row cell seats.now)) }
-    ensures { result ≡ sites_cost (price measure.now) (cells_on row (joined row cell seats.now)) (row_sites (price measure.now) row (cells_on row (joined row cell seats.now))) }
+    ensures { result ≡ sites_cost (M.price measure.now) (cells_on row (joined row cell seats.now)) (row_sites (M.price measure.now) row (cells_on row (joined row cell seats.now))) }
 {
     let mut cells = [NO_CELL; 1_024];
     let mut sites = [0; 1_024];
@@ -93,7 +93,7 @@ fn rise_on<M: Measure>(measure: &M, seats: &[Seat], row: Row, cell: Cell) -> u64
     requires passes { cell_fault cell ≡ None }
     requires few { length seats.now < 1024 }
     requires ready { Ready row (cells_on row (joined row cell seats.now)) }
-    ensures { result ≡ rise (price measure.now) seats.now cell row }
+    ensures { result ≡ rise (M.price measure.now) seats.now cell row }
 {
     let after = cost_with(measure, seats, row, cell);
     let stretch = stretch_of(seats, row);
@@ -142,7 +142,7 @@ fn consider<M: Measure>(
     requires few { length seats.now < 1024 }
     requires some { row.now.left ≤ row.now.right }
     requires ready { has_sites seats.now cell row.now ≡ true → Ready row.now (cells_on row.now (joined row.now cell seats.now)) }
-    ensures { result ≡ considered (price measure.now) seats.now cell row.now best }
+    ensures { result ≡ considered (M.price measure.now) seats.now cell row.now best }
 {
     if !has_sites(seats, row, &cell) {
         return best;
@@ -160,7 +160,7 @@ pub(crate) fn choose<M: Measure>(
 ) -> Option<Choice>
     requires well { formed rows.now seats.now ≡ true }
     requires none { place_refusal rows.now seats.now cell ≡ None }
-    ensures { result ≡ option_map (choice_of (price measure.now) seats.now cell) (chosen (price measure.now) seats.now cell rows.now) }
+    ensures { result ≡ option_map (choice_of (M.price measure.now) seats.now cell) (chosen (M.price measure.now) seats.now cell rows.now) }
 {
     let mut best: Option<Choice> = None;
     for row in rows {
@@ -176,7 +176,7 @@ impl Seats {
         requires sited { AllByRecursion Sited self.old.items.items }
         requires few { length self.old.items.items ≤ 1024 }
         requires ready { Ready row (cells_on row self.old.items.items) }
-        ensures items { self.new.items.items ≡ settled (price measure.now) row self.old.items.items }
+        ensures items { self.new.items.items ≡ settled (M.price measure.now) row self.old.items.items }
         ensures len { vec_len self.new.items ≡ vec_len self.old.items }
         ensures capacity { vec_capacity self.new.items ≡ vec_capacity self.old.items }
     {
@@ -194,7 +194,7 @@ impl Seats {
         requires few { length (joined row cell self.old.items.items) ≤ 1024 }
         requires room { vec_len self.old.items < vec_capacity self.old.items }
         requires ready { Ready row (cells_on row (joined row cell self.old.items.items)) }
-        ensures items { self.new.items.items ≡ seated (price measure.now) self.old.items.items cell row }
+        ensures items { self.new.items.items ≡ seated (M.price measure.now) self.old.items.items cell row }
         ensures len { vec_len self.new.items ≡ vec_len self.old.items + 1 }
         ensures capacity { vec_capacity self.old.items ≤ vec_capacity self.new.items }
     {

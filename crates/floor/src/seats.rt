@@ -111,7 +111,7 @@ pub(crate) fn copy_cells(seats: &[Seat], cells: &mut [Cell])
 pub(crate) fn sites_cost<M: Measure>(measure: &M, seats: &[Seat]) -> u64
     requires few { length seats.now ≤ 1024 }
     requires sited { AllByRecursion Sited seats.now }
-    ensures value { result ≡ sites_cost (price measure.now) (map cell_of seats.now) (map site_of seats.now) }
+    ensures value { result ≡ sites_cost (M.price measure.now) (map cell_of seats.now) (map site_of seats.now) }
     ensures bound { result ≤ 2 ^ 52 }
 {
     let mut sum: u64 = 0;

@@ -32,7 +32,7 @@ fn rise_of<M: Measure>(measure: &M, cells: &[Cell], start: u32) -> i64
     requires few { length cells.now ≤ 1024 }
     requires passed { AllByRecursion Passes cells.now }
     requires inside { start + widths cells.now ≤ 65535 }
-    ensures { result ≡ cluster_rise (price measure.now) cells.now start }
+    ensures { result ≡ cluster_rise (M.price measure.now) cells.now start }
 {
     let mut sum: i64 = 0;
     let mut site = start;
@@ -49,7 +49,7 @@ fn best_between<M: Measure>(measure: &M, cells: &[Cell], low: u32, high: u32) ->
     requires passed { AllByRecursion Passes cells.now }
     requires some { low ≤ high }
     requires inside { high + widths cells.now ≤ 65535 }
-    ensures { result ≡ least (climbs (price measure.now) cells.now) low (high - low) }
+    ensures { result ≡ least (climbs (M.price measure.now) cells.now) low (high - low) }
 {
     let mut from = low;
     let mut to = high;
@@ -69,7 +69,7 @@ fn best_between<M: Measure>(measure: &M, cells: &[Cell], low: u32, high: u32) ->
 fn alone<M: Measure>(measure: &M, row: Row, cells: &[Cell], first: usize) -> Cluster
     requires ready { Ready row cells.now }
     requires within { first < length cells.now }
-    ensures { AtBest (price measure.now) row cells.now first (first + 1) result }
+    ensures { AtBest (M.price measure.now) row cells.now first (first + 1) result }
 {
     let past = first + 1;
     let width = cells[first].width;
@@ -93,8 +93,8 @@ fn joined<M: Measure>(
 ) -> Cluster
     requires ready { Ready row cells.now }
     requires follows { Follows cells.now before last }
-    requires bracketed { Bracketed (price measure.now) row cells.now before last }
-    ensures { AtBest (price measure.now) row cells.now before.first last.past result }
+    requires bracketed { Bracketed (M.price measure.now) row cells.now before last }
+    ensures { AtBest (M.price measure.now) row cells.now before.first last.past result }
 {
     let first = before.first;
     let past = last.past;
@@ -122,8 +122,8 @@ fn add<M: Measure>(
     requires ready { Ready row cells.now }
     requires within { first < length cells.now }
     requires room { length cells.now ≤ length clusters.old }
-    requires holds { Holds (price measure.now) row cells.now first clusters.old count }
-    ensures { Holds (price measure.now) row cells.now (first + 1) clusters.new result }
+    requires holds { Holds (M.price measure.now) row cells.now first clusters.old count }
+    ensures { Holds (M.price measure.now) row cells.now (first + 1) clusters.new result }
 {
     let mut last = alone(measure, row, cells, first);
     let mut count = count;
@@ -144,7 +144,7 @@ pub(crate) fn settle<M: Measure>(
 ) -> usize
     requires ready { Ready row cells.now }
     requires room { length cells.now ≤ length clusters.old }
-    ensures { Holds (price measure.now) row cells.now (length cells.now) clusters.new result }
+    ensures { Holds (M.price measure.now) row cells.now (length cells.now) clusters.new result }
 {
     let mut count = 0;
     for first in 0..cells.len() {

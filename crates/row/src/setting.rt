@@ -57,7 +57,7 @@ fn cost_of<M: Measure>(measure: &M, cells: &[Cell], sites: &[u32]) -> u64
     requires passed { AllByRecursion Passes cells.now }
     requires each { length sites.now ≡ length cells.now }
     requires inside { AllByRecursion (λ x. x ≤ 65535) sites.now }
-    ensures { result ≡ sites_cost (price measure.now) cells.now sites.now }
+    ensures { result ≡ sites_cost (M.price measure.now) cells.now sites.now }
 {
     let mut sum: u64 = 0;
     for (i, cell) in cells.iter().enumerate() {
@@ -70,8 +70,8 @@ fn cost_of<M: Measure>(measure: &M, cells: &[Cell], sites: &[u32]) -> u64
 fn set_checked<M: Measure>(measure: &M, row: Row, cells: &[Cell], sites: &mut [u32]) -> u64
     requires ready { Ready row cells.now }
     requires each { length sites.old ≡ length cells.now }
-    ensures answer { result ≡ sites_cost (price measure.now) cells.now (row_sites (price measure.now) row cells.now) }
-    ensures after { sites.new ≡ row_sites (price measure.now) row cells.now }
+    ensures answer { result ≡ sites_cost (M.price measure.now) cells.now (row_sites (M.price measure.now) row cells.now) }
+    ensures after { sites.new ≡ row_sites (M.price measure.now) row cells.now }
 {
     let mut clusters = [Cluster::NONE; 1_024];
     let count = settle(measure, row, cells, &mut clusters);
@@ -87,9 +87,9 @@ pub fn set<M: Measure>(
     cells: &[Cell],
     sites: &mut [u32],
 ) -> Result<u64, Refusal>
-    ensures answer { result ≡ set_answer (price measure.now) row cells.now sites.old }
-    ensures after { sites.new ≡ set_sites (price measure.now) row cells.now sites.old }
-    ensures cheapest { IfOk result (λ cost. Cheapest (price measure.now) row cells.now sites.new × (cost ≡ sites_cost (price measure.now) cells.now sites.new)) }
+    ensures answer { result ≡ set_answer (M.price measure.now) row cells.now sites.old }
+    ensures after { sites.new ≡ set_sites (M.price measure.now) row cells.now sites.old }
+    ensures cheapest { IfOk result (λ cost. Cheapest (M.price measure.now) row cells.now sites.new × (cost ≡ sites_cost (M.price measure.now) cells.now sites.new)) }
 {
     check(row, cells, sites.len())?;
     Ok(set_checked(measure, row, cells, sites))

@@ -18,7 +18,7 @@ pub trait Ranked {
 // Where a key stands in an ordered table: behind the records that are ahead of it. It halves the table.
 pub fn place_of<R: Ranked>(table: &[R], key: &R) -> usize
     ensures bound { result ≤ length table.now }
-    ensures finds { Ordered ahead table.now → result ≡ rank_of ahead table.now key.now }
+    ensures finds { Ordered R.ahead table.now → result ≡ rank_of R.ahead table.now key.now }
 {
     let mut low = 0;
     let mut high = table.len();

@@ -26,7 +26,7 @@ impl<M: Measure> Floor<M> {
 
     // What the floor costs: for each standing cell, the cost of its site and of its line.
     pub fn cost(&self) -> u64
-        ensures value { result ≡ floor_cost (price self.now.measure) (seats_of self.now) }
+        ensures value { result ≡ floor_cost (M.price self.now.measure) (seats_of self.now) }
         ensures bound { result ≤ 2 ^ 53 }
     {
         let seats = self.seats.items.as_slice();

@@ -32,8 +32,8 @@ impl<M: Measure> Floor<M> {
 
     // Places a cell on the row of least rise, and sets that row. Answers where the cell stands, and the rise.
     pub fn place(&mut self, cell: Cell) -> Result<Placing, Refusal>
-        ensures answer { result ≡ place_answer (price self.old.measure) (rows_of self.old) (seats_of self.old) cell }
-        ensures seats { seats_of self.new ≡ seats_after_place (price self.old.measure) (rows_of self.old) (seats_of self.old) cell }
+        ensures answer { result ≡ place_answer (M.price self.old.measure) (rows_of self.old) (seats_of self.old) cell }
+        ensures seats { seats_of self.new ≡ seats_after_place (M.price self.old.measure) (rows_of self.old) (seats_of self.old) cell }
         ensures rows { rows_of self.new ≡ rows_of self.old }
         ensures same { self.new.measure ≡ self.old.measure }
     {

@@ -12,8 +12,8 @@ returns g c =
     let row = c.args.row in
     let cs = cells_on row c.args.seats.now in
     let count = c.gather-stretch.result.end - c.gather-stretch.result.start in
-    let sites : c.set-ready.new.sites ≡ row_sites f row cs =
-    c.set-ready.ensures.after ∙ ap (row_sites f row) (from_zero count c.gather-stretch.new.cells ∙ c.gather-stretch.ensures.cells) in
-    let long : length c.set-ready.new.sites ≡ count =
+    let sites : c.set_ready.new.sites ≡ row_sites f row cs =
+    c.set_ready.ensures.after ∙ ap (row_sites f row) (from_zero count c.gather-stretch.new.cells ∙ c.gather-stretch.ensures.cells) in
+    let long : length c.set_ready.new.sites ≡ count =
     ap length sites ∙ sites_each (g.met.M.Measure.fair c.args.measure.now) row cs c.requires.ready ∙ sym c.gather-stretch.ensures.count in
-    record { stretch = c.gather-stretch.ensures.stretch; sites = take_at c.set-ready.new.sites (post_of 0 (count - 0) c.args.sites.now) count long ∙ sites }
+    record { stretch = c.gather-stretch.ensures.stretch; sites = take_at c.set_ready.new.sites (post_of 0 (count - 0) c.args.sites.now) count long ∙ sites }

@@ -2,17 +2,17 @@ use Rattle.std.proofs.Common.{arith}
 use Rattle.floor.proofs.Sited.{ranged_seat, place_seat, price_bound, cost_more, cost_none}
 use Rattle.floor.proofs.seats.sites_cost.Goals as goal
 
-pub overflow-cast-seat : goal.overflow-cast-seat
-overflow-cast-seat g c = let r = ranged_seat c.args.seats.now c.loop-seat.seat-index c.loop-seat-test.true c.requires.sited in omega arith
+pub overflow_cast-seat : goal.overflow_cast-seat
+overflow_cast-seat g c = let r = ranged_seat c.args.seats.now c.loop-seat.seat-index c.loop-seat-test.true c.requires.sited in omega arith
 
-pub overflow-cast-seat-in-loop-seat : goal.overflow-cast-seat-in-loop-seat
-overflow-cast-seat-in-loop-seat g c = let r = ranged_seat c.args.seats.now c.loop-seat.seat-index c.loop-seat-test.true c.requires.sited in omega arith
+pub overflow_cast-seat-in-loop-seat : goal.overflow_cast-seat-in-loop-seat
+overflow_cast-seat-in-loop-seat g c = let r = ranged_seat c.args.seats.now c.loop-seat.seat-index c.loop-seat-test.true c.requires.sited in omega arith
 
-pub overflow-cast-seat-in-loop-seat-2 : goal.overflow-cast-seat-in-loop-seat-2
-overflow-cast-seat-in-loop-seat-2 g c = let p = place_seat c.args.seats.now c.loop-seat.seat-index c.loop-seat-test.true c.requires.sited in omega arith
+pub overflow_cast-seat-in-loop-seat-2 : goal.overflow_cast-seat-in-loop-seat-2
+overflow_cast-seat-in-loop-seat-2 g c = let p = place_seat c.args.seats.now c.loop-seat.seat-index c.loop-seat-test.true c.requires.sited in omega arith
 
-pub overflow-add-sum : goal.overflow-add-sum
-overflow-add-sum g c =
+pub overflow_add-sum : goal.overflow_add-sum
+overflow_add-sum g c =
     let bound = price_bound c.args.seats.now c.loop-seat.seat-index c.loop-seat-test.true c.requires.sited (g.met.M.Measure.fair c.args.measure.now) in
     omega arith
 

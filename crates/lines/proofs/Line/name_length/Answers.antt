@@ -10,13 +10,13 @@ measured {line} {form} {r} is named wide =
     subst (λ l. (r ≡ length (name_of l)) × (length (text l) ≤ 58 + r)) (sym is) (named, omega (arith, text_length form wide))
 
 pub returns-in-Granted : goal.returns-in-Granted
-returns-in-Granted c = let p = measured c.in-Granted.is c.length-of.ensures (omega arith) in record { value = p.0; others = p.1 }
+returns-in-Granted c = let p = measured c.in-Granted.is c.length_of.ensures (omega arith) in record { value = p.0; others = p.1 }
 
 pub returns-in-Seated : goal.returns-in-Seated
-returns-in-Seated c = let p = measured c.in-Seated.is c.length-of-in-Seated.ensures (omega arith) in record { value = p.0; others = p.1 }
+returns-in-Seated c = let p = measured c.in-Seated.is c.length_of-in-Seated.ensures (omega arith) in record { value = p.0; others = p.1 }
 
 pub returns-in-Refused : goal.returns-in-Refused
-returns-in-Refused c = let p = measured c.in-Refused.is c.length-of-in-Refused.ensures (omega arith) in record { value = p.0; others = p.1 }
+returns-in-Refused c = let p = measured c.in-Refused.is c.length_of-in-Refused.ensures (omega arith) in record { value = p.0; others = p.1 }
 
 pub returns-in-Unreadable : goal.returns-in-Unreadable
 returns-in-Unreadable c = let p = measured c.in-Unreadable.is refl (omega arith) in record { value = p.0; others = p.1 }

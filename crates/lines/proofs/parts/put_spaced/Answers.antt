@@ -2,4 +2,4 @@ use Rattle.lines.proofs.Puts.{put_then}
 use Rattle.lines.proofs.parts.put_spaced.Goals as goal
 
 pub returns : goal.returns
-returns c = put_then c.put-byte-start.ensures c.put-number.ensures
+returns c = put_then c.put_byte-start.ensures c.put_number.ensures

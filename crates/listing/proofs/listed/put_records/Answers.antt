@@ -15,13 +15,13 @@ loop-next-preserved c =
     let told = c.in-Ok.ensures in
     let said = content c.in-Some.found in
     let here = standing c.loop-next.reader in
-    let there = standing c.next-record.new.self in
+    let there = standing c.next_record.new.self in
     let before = vec_items c.loop-next.out in
     let P : Option Record → Type 0 = λ next. (answered (Ok next) ≡ next_answer here) × Advances here (answered (Ok next)) there in
     let found = subst P c.in-Some.is (told.answer, told.advances) in
     let turn = record_turn inv.0 here there said before inv.1 found.0 told.after found.1 in
-    let line : vec_items c.put-record.new.out ≡ before ++ record_line here.index said =
-    c.in-ok-put-record.ensures refl ∙ ap (λ i. before ++ record_line i said) c.index-index.ensures in
+    let line : vec_items c.put_record.new.out ≡ before ++ record_line here.index said =
+    c.in_ok-put_record.ensures refl ∙ ap (λ i. before ++ record_line i said) c.index-index.ensures in
     (turn.0, turn.1, ap (λ lines. lines ++ record_lines turn.0 there) line ∙ turn.2 ∙ inv.2)
 
 pub returns-in-None : goal.returns-in-None
@@ -39,4 +39,4 @@ returns-in-Err c = λ ok.
     let before = vec_items c.loop-next.out in
     let fault = c.in-Err.fault in
     let last = last_turn inv.0 (standing c.loop-next.reader) (Err fault) (fault_line fault) inv.1 c.in-Err.ensures.answer (λ others. refl) in
-    c.put-fault.ensures ok ∙ ap (λ lines. before ++ lines) (sym last) ∙ inv.2
+    c.put_fault.ensures ok ∙ ap (λ lines. before ++ lines) (sym last) ∙ inv.2

@@ -9,11 +9,11 @@ returns c = λ ok.
     let start = vec_items c.args.out.now in
     let fields = cell_text c.args.index c.args.word.now c.args.cell in
     let name = name_text (option_map named c.args.name) in
-    let text = c.in-ok-text.ensures in
-    let bytes = c.as-bytes.ensures.value in
-    let one = c.in-ok-extend-from-slice.ensures.items in
-    let two = c.in-ok-put-name.ensures refl in
-    let three = c.put-line.ensures ok in
+    let text = c.in_ok-text.ensures in
+    let bytes = c.as_bytes.ensures.value in
+    let one = c.in_ok-extend_from_slice.ensures.items in
+    let two = c.in_ok-put_name.ensures refl in
+    let three = c.put_line.ensures ok in
     let first = append_assoc start fields name in
     let second = append_assoc start (fields ++ name) end_of_line in
     cc

@@ -14,15 +14,15 @@ one_more : (last : Option Cell) (cells : List Cell) (i : ℕ) (found : Option Re
 one_more last cells i found within is =
     ap (λ o. then o (cells_refusal (Some (get_or cells i no_cell)) (drop (i + 1) cells))) is ∙ sym (at_drop_more (cells_refusal last) cells i no_cell within)
 
-pub returns-in-err-check-next : goal.returns-in-err-check-next
-returns-in-err-check-next c =
-    let stop = err_from_is_err_and c.from-residual.result c.from-residual.ensures.1 in
-    let turn = one_more c.loop-cell.last c.args.cells.now c.loop-cell.cell-index _ c.loop-cell-test.true c.in-err-check-next.ensures in
+pub returns-in_err-check_next : goal.returns-in_err-check_next
+returns-in_err-check_next c =
+    let stop = err_from_is_err_and c.from_residual.result c.from_residual.ensures.1 in
+    let turn = one_more c.loop-cell.last c.args.cells.now c.loop-cell.cell-index _ c.loop-cell-test.true c.in_err-check_next.ensures in
     ap checked stop.1 ∙ ap Some stop.2 ∙ turn ∙ c.loop-cell.invariant
 
 pub loop-cell-preserved : goal.loop-cell-preserved
 loop-cell-preserved c =
-    one_more c.loop-cell.last c.args.cells.now c.loop-cell.cell-index _ c.loop-cell-test.true c.in-ok-check-next.ensures ∙ c.loop-cell.invariant
+    one_more c.loop-cell.last c.args.cells.now c.loop-cell.cell-index _ c.loop-cell-test.true c.in_ok-check_next.ensures ∙ c.loop-cell.invariant
 
 pub returns : goal.returns
 returns c = sym (at_drop_all (cells_refusal c.loop-cell.last) c.args.cells.now c.loop-cell.cell-index c.loop-cell-test.false) ∙ c.loop-cell.invariant

@@ -10,8 +10,8 @@ loop-count-init g c =
     start (g.M.Measure.price c.args.measure.now) c.args.row c.args.cells.now _ (g.met.M.Measure.fair c.args.measure.now) a
     c.args.first c.args.clusters.now c.args.count c.alone-last.result c.requires.within c.requires.holds c.alone-last.ensures
 
-pub overflow-add-clusters : goal.overflow-add-clusters
-overflow-add-clusters g c =
+pub overflow_add-clusters : goal.overflow_add-clusters
+overflow_add-clusters g c =
     let a = accepted c.args.row c.args.cells.now _ c.requires.ready in
     let right = a.ranged.right in
     let fits = end_fits (g.M.Measure.price c.args.measure.now) c.args.row c.args.cells.now _ (g.met.M.Measure.fair c.args.measure.now) a

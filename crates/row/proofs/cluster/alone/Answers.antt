@@ -7,15 +7,15 @@ use Rattle.row.proofs.Instance.{best_least, best_narrowed}
 use Rattle.row.proofs.Parts.{between_one, part_known}
 use Rattle.row.proofs.cluster.alone.Goals as goal
 
-pub overflow-sub-last : goal.overflow-sub-last
-overflow-sub-last g c =
+pub overflow_sub-last : goal.overflow_sub-last
+overflow_sub-last g c =
     let a = accepted c.args.row c.args.cells.now _ c.requires.ready in
     let known = part_known a c.args.first (c.args.first + 1) in
     let one = ap widths (between_one c.args.cells.now c.args.first no_cell c.requires.within) in
     omega arith
 
-pub best-between-site-requires : goal.best-between-site-requires
-best-between-site-requires g c =
+pub best_between-site-requires : goal.best_between-site-requires
+best_between-site-requires g c =
     let a = accepted c.args.row c.args.cells.now _ c.requires.ready in
     let known = part_known a c.args.first (c.args.first + 1) in
     let one = ap widths (between_one c.args.cells.now c.args.first no_cell c.requires.within) in
@@ -31,5 +31,5 @@ returns g c =
     record {
       begins = refl;
       spans = record { starts = omega arith; ends = refl; wide = omega arith };
-      best = c.best-between-site.ensures ∙ best_narrowed f c.args.row (between c.args.first (c.args.first + 1) c.args.cells.now) _ _ known.room (omega arith) best.from (omega (arith, best.upto)) (omega arith);
+      best = c.best_between-site.ensures ∙ best_narrowed f c.args.row (between c.args.first (c.args.first + 1) c.args.cells.now) _ _ known.room (omega arith) best.from (omega (arith, best.upto)) (omega arith);
     }

@@ -23,7 +23,7 @@ loop-from-preserved g c =
     let cells = c.args.cells.now in
     let test : ℕ → Bool = climbs (g.M.Measure.price c.args.measure.now) cells in
     let inv = c.loop-from.invariant.0 in
-    let fails : test middle ≡ false = tested c.rise-of-climbs.result _ false c.rise-of-climbs.type-inv c.rise-of-climbs.ensures c.if-climbs.false in
+    let fails : test middle ≡ false = tested c.rise_of-climbs.result _ false c.rise_of-climbs.type_inv c.rise_of-climbs.ensures c.if-climbs.false in
     let fair = g.met.M.Measure.fair c.args.measure.now in
     let further : middle < least test c.args.low (c.args.high - c.args.low) =
     after from to middle _ inv (omega arith) fails (λ t u at up below. climbs_on fair cells t u c.requires.passed up (omega arith)) in

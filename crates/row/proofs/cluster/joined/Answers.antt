@@ -10,22 +10,22 @@ use Rattle.row.proofs.Instance.{best_least, best_narrowed}
 use Rattle.row.proofs.Parts.{widths_joined, part_known}
 use Rattle.row.proofs.cluster.joined.Goals as goal
 
-pub overflow-add-width : goal.overflow-add-width
-overflow-add-width g c =
+pub overflow_add-width : goal.overflow_add-width
+overflow_add-width g c =
     let a = accepted c.args.row c.args.cells.now _ c.requires.ready in
     let known = part_known a c.args.before.first c.args.last.past in
     let wide = widths_joined c.requires.follows in
     omega arith
 
-pub overflow-sub-row : goal.overflow-sub-row
-overflow-sub-row g c =
+pub overflow_sub-row : goal.overflow_sub-row
+overflow_sub-row g c =
     let a = accepted c.args.row c.args.cells.now _ c.requires.ready in
     let known = part_known a c.args.before.first c.args.last.past in
     let wide = widths_joined c.requires.follows in
     omega arith
 
-pub best-between-site-requires : goal.best-between-site-requires
-best-between-site-requires g c =
+pub best_between-site-requires : goal.best_between-site-requires
+best_between-site-requires g c =
     let a = accepted c.args.row c.args.cells.now _ c.requires.ready in
     let known = part_known a c.args.before.first c.args.last.past in
     let wide = widths_joined c.requires.follows in
@@ -43,5 +43,5 @@ returns g c =
     record {
       begins = refl;
       spans = record { starts = omega arith; ends = refl; wide = omega arith };
-      best = c.best-between-site.ensures ∙ best_narrowed f c.args.row cs c.max-low.result c.min-high.result known.room (omega arith) (omega (arith, best.from)) (omega (arith, best.upto)) (omega arith);
+      best = c.best_between-site.ensures ∙ best_narrowed f c.args.row cs c.max-low.result c.min-high.result known.room (omega arith) (omega (arith, best.from)) (omega (arith, best.upto)) (omega arith);
     }

@@ -6,25 +6,25 @@ use Rattle.row.specs.Sites.{cluster_rise}
 use Rattle.row.proofs.Rises.{ranged_at, widths_more, rise_more, step_bounds_at}
 use Rattle.row.proofs.cluster.rise_of.Goals as goal
 
-pub overflow-cast-cell : goal.overflow-cast-cell
-overflow-cast-cell g c =
+pub overflow_cast-cell : goal.overflow_cast-cell
+overflow_cast-cell g c =
     let r = ranged_at c.args.cells.now c.loop-cell.cell-index c.loop-cell-test.true c.requires.passed in
     omega arith
 
-pub overflow-cast-cell-in-loop-cell : goal.overflow-cast-cell-in-loop-cell
-overflow-cast-cell-in-loop-cell g c =
+pub overflow_cast-cell-in-loop-cell : goal.overflow_cast-cell-in-loop-cell
+overflow_cast-cell-in-loop-cell g c =
     let r = ranged_at c.args.cells.now c.loop-cell.cell-index c.loop-cell-test.true c.requires.passed in
     omega arith
 
-pub overflow-add-sum : goal.overflow-add-sum
-overflow-add-sum g c =
+pub overflow_add-sum : goal.overflow_add-sum
+overflow_add-sum g c =
     let fair = g.met.M.Measure.fair c.args.measure.now in
     let inside : c.loop-cell.site + widths (drop c.loop-cell.cell-index c.args.cells.now) ≤ 65535 = omega arith in
     let bounds = step_bounds_at c.args.cells.now c.loop-cell.cell-index c.loop-cell-test.true fair c.requires.passed c.loop-cell.site inside in
     omega (arith, ints)
 
-pub overflow-add-site : goal.overflow-add-site
-overflow-add-site g c =
+pub overflow_add-site : goal.overflow_add-site
+overflow_add-site g c =
     let more = widths_more c.args.cells.now c.loop-cell.cell-index c.loop-cell-test.true in
     omega arith
 

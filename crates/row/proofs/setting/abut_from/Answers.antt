@@ -3,8 +3,8 @@ use Rattle.row.proofs.Rises.{widths_more}
 use Rattle.row.proofs.Writes.{abut_more, abut_all}
 use Rattle.row.proofs.setting.abut_from.Goals as goal
 
-pub overflow-add-site : goal.overflow-add-site
-overflow-add-site c =
+pub overflow_add-site : goal.overflow_add-site
+overflow_add-site c =
     let more = widths_more c.args.cells.now c.loop-i.i c.loop-i-test.true in
     omega arith
 

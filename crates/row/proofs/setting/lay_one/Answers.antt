@@ -11,5 +11,5 @@ returns c =
     let sites = c.args.sites.now in
     let starts = c.requires.spans.starts in
     let behind : drop (k.past - k.first) (drop k.first sites) ≡ drop k.past sites = drop-drop (k.past - k.first) k.first sites ∙ ap (λ n. drop n sites) (omega arith) in
-    ap (put_mid k.first (k.past - k.first) sites) c.abut-from.ensures
+    ap (put_mid k.first (k.past - k.first) sites) c.abut_from.ensures
     ∙ ap (λ l. take k.first sites ++ (abut (part c.args.cells.now k) k.site ++ l)) behind

@@ -20,8 +20,8 @@ loop-i-init c =
       ap (λ l. laid abut (stack_of cells l) ++ drop (length cells) c.args.sites.now) all ∙ ap (λ l. laid abut (stack_of cells runs) ++ l) none ∙ append-nil (laid abut (stack_of cells runs)),
     )
 
-pub lay-one-requires : goal.lay-one-requires
-lay-one-requires c =
+pub lay_one-requires : goal.lay_one-requires
+lay_one-requires c =
     let inv = c.loop-i.invariant in
     let top = (top_spans c.args.cells.now c.args.clusters.now c.loop-i.i inv.0 c.loop-i-test.true c.loop-i.auto.i inv.2).0 in
     let below = inv.1 in
@@ -45,6 +45,6 @@ loop-i-preserved c =
       _,
       omega arith,
       top.1,
-      ap (λ l. laid abut (stack_of cells (take (i - 1) runs)) ++ drop (get_or runs (i - 1) no_run).first l) c.lay-one.ensures
+      ap (λ l. laid abut (stack_of cells (take (i - 1) runs)) ++ drop (get_or runs (i - 1) no_run).first l) c.lay_one.ensures
           ∙ lay_more cells runs i inv.0 c.loop-i.sites _ c.loop-i-test.true c.loop-i.auto.i (omega arith) below inv.2 inv.3,
     )

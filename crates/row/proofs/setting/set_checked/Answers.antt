@@ -5,8 +5,8 @@ use Rattle.row.proofs.Accepted.{accepted}
 use Rattle.row.proofs.Finished.{tiled_first, in_places, laid_are, row_each, row_places}
 use Rattle.row.proofs.setting.set_checked.Goals as goal
 
-pub lay-out-requires : goal.lay-out-requires
-lay-out-requires g c =
+pub lay_out-requires : goal.lay_out-requires
+lay_out-requires g c =
     let cells = c.args.cells.now in
     let a = accepted c.args.row cells (length cells) c.requires.ready in
     let f = g.M.Measure.price c.args.measure.now in
@@ -18,14 +18,14 @@ lay-out-requires g c =
       inside = in_places f c.args.row cells _ fair a runs c.settle-count.result c.settle-count.ensures (c.settle-count.result - 0) (omega arith);
     }
 
-pub cost-of-requires : goal.cost-of-requires
-cost-of-requires g c =
+pub cost_of-requires : goal.cost_of-requires
+cost_of-requires g c =
     let cells = c.args.cells.now in
     let a = accepted c.args.row cells (length cells) c.requires.ready in
     let f = g.M.Measure.price c.args.measure.now in
     let fair = g.met.M.Measure.fair c.args.measure.now in
-    let written : c.lay-out.new.sites ≡ row_sites f c.args.row cells =
-    c.lay-out.ensures ∙ laid_are f c.args.row cells _ fair a c.settle-count.new.clusters c.settle-count.result c.settle-count.ensures (c.settle-count.result - 0) (omega arith) in
+    let written : c.lay_out.new.sites ≡ row_sites f c.args.row cells =
+    c.lay_out.ensures ∙ laid_are f c.args.row cells _ fair a c.settle-count.new.clusters c.settle-count.result c.settle-count.ensures (c.settle-count.result - 0) (omega arith) in
     record {
       few = a.few;
       passed = a.pass;
@@ -39,6 +39,6 @@ returns g c =
     let a = accepted c.args.row cells (length cells) c.requires.ready in
     let f = g.M.Measure.price c.args.measure.now in
     let fair = g.met.M.Measure.fair c.args.measure.now in
-    let written : c.lay-out.new.sites ≡ row_sites f c.args.row cells =
-    c.lay-out.ensures ∙ laid_are f c.args.row cells _ fair a c.settle-count.new.clusters c.settle-count.result c.settle-count.ensures (c.settle-count.result - 0) (omega arith) in
+    let written : c.lay_out.new.sites ≡ row_sites f c.args.row cells =
+    c.lay_out.ensures ∙ laid_are f c.args.row cells _ fair a c.settle-count.new.clusters c.settle-count.result c.settle-count.ensures (c.settle-count.result - 0) (omega arith) in
     record { answer = c.cost_of.ensures ∙ ap (sites_cost f cells) written; after = written }

@@ -7,19 +7,19 @@ use Rattle.setrow.proofs.numbers.numbers.Goals as goal
 pub loop-value-init : goal.loop-value-init
 loop-value-init g c = at_start c.args.form g.row.N _ _ (length-replicate g.row.N 0)
 
-pub returns-in-default : goal.returns-in-default
-returns-in-default g c = too_few c.loop-value.invariant (omega arith) c.in-default.ensures
+pub returns-in_default : goal.returns-in_default
+returns-in_default g c = too_few c.loop-value.invariant (omega arith) c.in_default.ensures
 
-pub returns-in-err-value : goal.returns-in-err-value
-returns-in-err-value g c =
-    let p = err_from_is_err_and c.from-residual.result c.from-residual.ensures.1 in
-    p.1 ∙ ap Err p.2 ∙ unread c.loop-value.invariant (omega arith) _ _ _ c.in-Some.ensures.first c.in-err-value.ensures
+pub returns-in_err-value : goal.returns-in_err-value
+returns-in_err-value g c =
+    let p = err_from_is_err_and c.from_residual.result c.from_residual.ensures.1 in
+    p.1 ∙ ap Err p.2 ∙ unread c.loop-value.invariant (omega arith) _ _ _ c.in-Some.ensures.first c.in_err-value.ensures
 
 pub loop-value-preserved : goal.loop-value-preserved
-loop-value-preserved g c = one_more c.loop-value.invariant (omega arith) _ _ _ c.in-Some.ensures.first c.in-ok-value.ensures
+loop-value-preserved g c = one_more c.loop-value.invariant (omega arith) _ _ _ c.in-Some.ensures.first c.in_ok-value.ensures
 
 pub returns-in-None : goal.returns-in-None
 returns-in-None g c = done c.loop-value.invariant (omega arith) c.in-None.ensures
 
-pub returns-in-Some-first-word : goal.returns-in-Some-first-word
-returns-in-Some-first-word g c = too_many c.loop-value.invariant (omega arith) _ _ c.in-Some-first-word.ensures.first
+pub returns-in-Some-first_word : goal.returns-in-Some-first_word
+returns-in-Some-first_word g c = too_many c.loop-value.invariant (omega arith) _ _ c.in-Some-first_word.ensures.first

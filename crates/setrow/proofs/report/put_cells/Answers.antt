@@ -8,7 +8,7 @@ use Rattle.setrow.proofs.report.put_cells.Goals as goal
 
 pub loop-cell-init : goal.loop-cell-init
 loop-cell-init c =
-    let from = c.into-iter-cell-iterator.ensures.into-iter-gives in
+    let from = c.into_iter-cell-iterator.ensures.into_iter-gives in
     let cells = ap iter_rest (ap zip_first from ∙ c.zip-cell-items.ensures.first) ∙ c.iter.ensures.rest in
     let sites = ap iter_rest (ap zip_second from ∙ c.zip-cell-items.ensures.second) ∙ c.iter-2.ensures.rest in
     λ j. string_bytes c.args.text.now ++ cell_lines (cells j) (sites j)
@@ -18,9 +18,9 @@ loop-cell-preserved c =
     let from = c.loop-cell.cell-iterator in
     let to = c.next.new.self in
     let more = Zip-more from to _ (c.in-Some.cell, c.in-Some.site) refl c.in-Some.ensures.steps in
-    line_more (string_bytes c.loop-cell.text) (string_bytes c.put-cell.new.text) c.in-Some.cell.now c.in-Some.site.now
+    line_more (string_bytes c.loop-cell.text) (string_bytes c.put_cell.new.text) c.in-Some.cell.now c.in-Some.site.now
     (iter_rest (zip_first from)) (iter_rest (zip_first to)) (iter_rest (zip_second from)) (iter_rest (zip_second to))
-    c.in-ok-put-cell.ensures more.0 more.1
+    c.in_ok-put_cell.ensures more.0 more.1
     ∙ c.loop-cell.invariant
 
 pub returns : goal.returns

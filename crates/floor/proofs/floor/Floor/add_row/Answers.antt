@@ -9,18 +9,18 @@ use Rattle.floor.specs.Formed.{formed}
 use Rattle.floor.proofs.Rowed.{row_added, ordered_rows, not_full}
 use Rattle.floor.proofs.floor.Floor.add_row.Goals as goal
 
-pub invariant-of-self : goal.invariant-of-self
-invariant-of-self g c =
+pub invariant_of-self : goal.invariant_of-self
+invariant_of-self g c =
     let rows = vec_items c.args.self.now.rows in
     let seats = vec_items c.args.self.now.seats.items in
     let row = c.args.row in
-    let none = sym c.in-ok-check-row.ensures in
+    let none = sym c.in_ok-check_row.ensures in
     let well : formed rows seats ≡ true = c.args.self.now.well in
     let room : (vec_len c.args.self.now.rows ≤ 64) × (64 ≤ vec_capacity c.args.self.now.rows) × (vec_len c.args.self.now.seats.items ≤ 1024) × (1024 ≤ vec_capacity c.args.self.now.seats.items) = c.args.self.now.room in
     let counted : vec_len c.args.self.now.rows ≡ length rows = c.args.self.now.rows.ok.0 in
     let few : length rows < 64 = not_full rows row none in
-    let at : c.place-of-at.result ≡ rank_of row_ahead rows row =
-    c.place-of-at.ensures.finds (subst (Ordered row_ahead) (sym c.as-slice.ensures.value) (ordered_rows rows seats well)) ∙ ap (λ l. rank_of row_ahead l row) c.as-slice.ensures.value in
+    let at : c.place_of-at.result ≡ rank_of row_ahead rows row =
+    c.place_of-at.ensures.finds (subst (Ordered row_ahead) (sym c.as_slice.ensures.value) (ordered_rows rows seats well)) ∙ ap (λ l. rank_of row_ahead l row) c.as_slice.ensures.value in
     let ok : is_ok c.insert.result ≡ true = c.insert.ensures.succeeds (omega arith) in
     let longer : vec_len c.insert.new.self ≡ vec_len c.args.self.now.rows + 1 = c.insert.ensures.len ∙ cond-true (is_ok c.insert.result) _ _ ok in
     let items : vec_items c.insert.new.self ≡ with_row rows row =
@@ -32,10 +32,10 @@ returns g c =
     let rows = vec_items c.args.self.now.rows in
     let seats = vec_items c.args.self.now.seats.items in
     let row = c.args.row in
-    let none = c.in-ok-check-row.ensures in
+    let none = c.in_ok-check_row.ensures in
     let well : formed rows seats ≡ true = c.args.self.now.well in
-    let at : c.place-of-at.result ≡ rank_of row_ahead rows row =
-    c.place-of-at.ensures.finds (subst (Ordered row_ahead) (sym c.as-slice.ensures.value) (ordered_rows rows seats well)) ∙ ap (λ l. rank_of row_ahead l row) c.as-slice.ensures.value in
+    let at : c.place_of-at.result ≡ rank_of row_ahead rows row =
+    c.place_of-at.ensures.finds (subst (Ordered row_ahead) (sym c.as_slice.ensures.value) (ordered_rows rows seats well)) ∙ ap (λ l. rank_of row_ahead l row) c.as_slice.ensures.value in
     record {
       answer = none;
       rows = c.in-Ok.ensures.items ∙ ap (λ n. insert rows n row) at ∙ ap (λ refused. changed refused (with_row rows row) rows) none;

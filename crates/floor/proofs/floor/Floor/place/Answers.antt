@@ -12,10 +12,10 @@ seat-requires g c =
     let f = g.M.Measure.price self.measure in
     let fair = g.met.M.Measure.fair self.measure in
     let well : formed rows seats ≡ true = self.well in
-    let none = sym c.in-ok-check-place.ensures in
+    let none = sym c.in_ok-check_place.ensures in
     let cell = c.args.cell in
     let row = c.in-Some.choice.row in
-    let is = row_chosen f rows seats c.as-slice.result.now c.as-slice-2.result.now cell c.in-Some.choice c.as-slice.ensures.value c.as-slice-2.ensures.value c.in-Some.ensures in
+    let is = row_chosen f rows seats c.as_slice.result.now c.as_slice-2.result.now cell c.in-Some.choice c.as_slice.ensures.value c.as_slice-2.ensures.value c.in-Some.ensures in
     let few = (able rows seats well cell none).few in
     let long : vec_len self.seats.items ≡ length seats = self.seats.items.ok.0 in
     let cap : 1024 ≤ vec_capacity self.seats.items = self.room.3 in
@@ -28,18 +28,18 @@ seat-requires g c =
       ready = then_ready fair rows seats well cell none row is;
     }
 
-pub invariant-of-self-2 : goal.invariant-of-self-2
-invariant-of-self-2 g c =
+pub invariant_of-self-2 : goal.invariant_of-self-2
+invariant_of-self-2 g c =
     let self = c.args.self.now in
     let rows = vec_items self.rows in
     let seats = vec_items self.seats.items in
     let f = g.M.Measure.price self.measure in
     let fair = g.met.M.Measure.fair self.measure in
     let well : formed rows seats ≡ true = self.well in
-    let none = sym c.in-ok-check-place.ensures in
+    let none = sym c.in_ok-check_place.ensures in
     let cell = c.args.cell in
     let row = c.in-Some.choice.row in
-    let is = row_chosen f rows seats c.as-slice.result.now c.as-slice-2.result.now cell c.in-Some.choice c.as-slice.ensures.value c.as-slice-2.ensures.value c.in-Some.ensures in
+    let is = row_chosen f rows seats c.as_slice.result.now c.as_slice-2.result.now cell c.in-Some.choice c.as_slice.ensures.value c.as_slice-2.ensures.value c.in-Some.ensures in
     let few = (able rows seats well cell none).few in
     let long : vec_len self.seats.items ≡ length seats = self.seats.items.ok.0 in
     let cap : 1024 ≤ vec_capacity self.seats.items = self.room.3 in

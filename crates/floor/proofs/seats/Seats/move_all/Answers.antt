@@ -11,8 +11,8 @@ loop-k-preserved c =
     let items = c.loop-k.self.items.items in
     let sites = c.args.sites.now in
     let within : n < length items = omega arith in
-    let read = get_or_read items n c.index-mut.result.now within c.index-mut.ensures.value no_seat in
-    let to = moved c.index-mut.result.now (get_or sites c.loop-k.k 0) in
+    let read = get_or_read items n c.index_mut.result.now within c.index_mut.ensures.value no_seat in
+    let to = moved c.index_mut.result.now (get_or sites c.loop-k.k 0) in
     let same = length-set items n to in (
       ap (λ m. take m (set items n to) ++ moved_all (drop (c.loop-k.k + 1) sites) (drop m (set items n to))) (omega arith)
           ∙ moved_more items sites n c.loop-k.k to within c.loop-k-test.true (ap (λ s. moved s (get_or sites c.loop-k.k 0)) read)

@@ -3,10 +3,10 @@ use Rattle.job.proofs.Advance.{passes}
 use Rattle.job.proofs.reader.Reader.next_record.Goals as goal
 
 -- the index stays no more than the place: the record that was read takes bytes
-pub invariant-of-self : goal.invariant-of-self
-invariant-of-self c =
+pub invariant_of-self : goal.invariant_of-self
+invariant_of-self c =
     let before = c.args.self.now in
-    let reach : before.mark.place + 2 ≤ c.take-record.new.self.at = (passes before.job.now _ _ _ c.in-Ok.ensures.reads).0.forth in
+    let reach : before.mark.place + 2 ≤ c.take_record.new.self.at = (passes before.job.now _ _ _ c.in-Ok.ensures.reads).0.forth in
     (omega (arith, before.mark.counted), tt)
 
 pub returns-in-Ok : goal.returns-in-Ok
