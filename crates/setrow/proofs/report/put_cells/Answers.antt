@@ -8,7 +8,7 @@ use Rattle.setrow.proofs.report.put_cells.Goals as goal
 
 pub loop-cell-init : goal.loop-cell-init
 loop-cell-init c =
-    let from = c.into_iter-cell-iterator.ensures.into_iter-gives in
+    let from = c.into_iter-cell-iterator.ensures.into_iter_gives in
     let cells = ap iter_rest (ap zip_first from ∙ c.zip-cell-items.ensures.first) ∙ c.iter.ensures.rest in
     let sites = ap iter_rest (ap zip_second from ∙ c.zip-cell-items.ensures.second) ∙ c.iter-2.ensures.rest in
     λ j. string_bytes c.args.text.now ++ cell_lines (cells j) (sites j)

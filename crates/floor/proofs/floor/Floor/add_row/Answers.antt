@@ -25,7 +25,7 @@ invariant_of-self g c =
     let longer : vec_len c.insert.new.self ≡ vec_len c.args.self.now.rows + 1 = c.insert.ensures.len ∙ cond-true (is_ok c.insert.result) _ _ ok in
     let items : vec_items c.insert.new.self ≡ with_row rows row =
     c.insert.ensures.items ∙ cond-true (is_ok c.insert.result) _ _ ok ∙ ap (λ n. insert rows n row) at in
-    ((omega arith, omega (arith, c.insert.ensures.capacity), room.2, room.3), (ap (λ rs. formed rs seats) items ∙ row_added rows row none seats well, tt))
+    record { room = (omega arith, omega (arith, c.insert.ensures.capacity), room.2, room.3); well = ap (λ rs. formed rs seats) items ∙ row_added rows row none seats well }
 
 pub returns : goal.returns
 returns g c =

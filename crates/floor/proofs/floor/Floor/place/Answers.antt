@@ -45,4 +45,4 @@ invariant_of-self-2 g c =
     let cap : 1024 ≤ vec_capacity self.seats.items = self.room.3 in
     let longer = c.seat.ensures.len in
     let roomy = c.seat.ensures.capacity in
-    ((self.room.0, self.room.1, omega arith, omega arith), (ap (formed rows) c.seat.ensures.items ∙ then_formed fair rows seats well cell none row is, tt))
+    record { room = (self.room.0, self.room.1, omega arith, omega arith); well = ap (formed rows) c.seat.ensures.items ∙ then_formed fair rows seats well cell none row is }

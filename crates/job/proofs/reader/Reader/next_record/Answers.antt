@@ -7,7 +7,7 @@ pub invariant_of-self : goal.invariant_of-self
 invariant_of-self c =
     let before = c.args.self.now in
     let reach : before.mark.place + 2 ≤ c.take_record.new.self.at = (passes before.job.now _ _ _ c.in-Ok.ensures.reads).0.forth in
-    (omega (arith, before.mark.counted), tt)
+    record { counted = omega (arith, before.mark.counted) }
 
 pub returns-in-Ok : goal.returns-in-Ok
 returns-in-Ok c =
