@@ -1,5 +1,4 @@
 -- What a read past the end of a list of records gives.
-use Rattle.row.specs.declared.Cell.{Cell}
 use Rattle.row.specs.declared.Row.{Row}
 use Rattle.floor.specs.declared.Seat.{Seat}
 

@@ -1,6 +1,5 @@
 -- What `set` answers where it refuses nothing.
-use Rattle.std.proofs.Common.{◌≡◌, ℕ, ◌-◌, List, length, take, Ok, Err, sym, ap, ◌∙◌, arith}
-use Rattle.std.proofs.lemmas.List.{length-take-le}
+use Rattle.std.proofs.Common.{◌≡◌, ℕ, ◌-◌, List, length, take, Ok, ap, ◌∙◌, arith}
 use Rattle.row.specs.Refusals.{set_refusal}
 use Rattle.row.specs.Sites.{row_sites, sites_cost}
 use Rattle.row.specs.Stack.{Ready}

@@ -1,11 +1,11 @@
 -- Row order and the order of seats: transitive, one way only, and total where keys differ.
-use Rattle.std.proofs.Common.{◌≡◌, Bool, true, false, ◌&&◌, ◌||◌, inl, inr, ⊎_elim, arith}
+use Rattle.std.proofs.Common.{◌≡◌, true, false, ⊎_elim, arith}
 use Rattle.std.proofs.lemmas.Bool.{or_cases, or_left, or_right, and_parts, and_from}
-use Rattle.row.specs.Records.{before, row_ahead}
+use Rattle.row.specs.Records.{row_ahead}
 use Rattle.row.specs.declared.Row.{Row}
-use Rattle.row.proofs.Accepted.{before_trans, before_once}
+use Rattle.row.proofs.Accepted.{before_trans}
 use Rattle.floor.specs.Rows.{same_row}
-use Rattle.floor.specs.Seats.{on_row, seat_ahead}
+use Rattle.floor.specs.Seats.{seat_ahead}
 use Rattle.floor.specs.declared.Seat.{Seat}
 
 pub row_chain : (a b c : Row) → row_ahead a b ≡ true → row_ahead b c ≡ true → row_ahead a c ≡ true

@@ -1,8 +1,8 @@
 -- What a floor that keeps its facts gives the functions that look at its rows.
-use Rattle.std.proofs.Common.{◌≡◌, ℕ, ◌+◌, ◌<◌, ◌≤◌, true, List, length, get_or, None, arith}
+use Rattle.std.proofs.Common.{◌≡◌, ℕ, ◌<◌, true, List, length, get_or, None, arith}
 use Rattle.std.proofs.ByRecursion.{All-weaker}
 use Rattle.std.specs.List.{AllByRecursion}
-use Rattle.row.specs.Stack.{Ready, Passes}
+use Rattle.row.specs.Stack.{Ready}
 use Rattle.row.specs.declared.Cell.{Cell}
 use Rattle.row.specs.declared.Row.{Row}
 use Rattle.row.proofs.Ranges.{RangedRow, ranged_row}

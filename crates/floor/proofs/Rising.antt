@@ -1,7 +1,6 @@
 -- The rise of a row, as the program adds it up.
-use Rattle.std.proofs.Common.{◌≡◌, ℕ, ◌+◌, ◌-◌, ◌*◌, ◌^◌, ◌<◌, ◌≤◌, List, [], ◌∷◌, map, length, sym, refl, ap, ◌∙◌, subst, arith}
-use Rattle.std.proofs.ByRecursion.{All-take, All-drop}
-use Rattle.std.specs.List.{between, AllByRecursion}
+use Rattle.std.proofs.Common.{◌≡◌, ℕ, ◌*◌, ◌^◌, ◌≤◌, List, [], ◌∷◌, length, ap, ◌∙◌, arith}
+use Rattle.std.specs.List.{AllByRecursion}
 use Rattle.measure.specs.Costs.{Fair, InRange, cost_of}
 use Rattle.row.specs.Sites.{row_sites, sites_cost}
 use Rattle.row.specs.Stack.{Passes, Ready}
@@ -11,8 +10,8 @@ use Rattle.row.proofs.Accepted.{accepted}
 use Rattle.row.proofs.Finished.{row_places}
 use Rattle.row.proofs.Ranges.{ranged}
 use Rattle.row.proofs.Rises.{in_ranges}
-use Rattle.floor.specs.Calls.{seated, rise}
-use Rattle.floor.specs.Seats.{Sited, cell_of, site_of, cells_on, sites_on, joined, row_cost}
+use Rattle.floor.specs.Calls.{seated}
+use Rattle.floor.specs.Seats.{cells_on, sites_on, joined, row_cost}
 use Rattle.floor.specs.declared.Seat.{Seat}
 use Rattle.floor.proofs.Costs.{cost_within}
 use Rattle.floor.proofs.Resited.{resited_cells_on, resited_sites_on}

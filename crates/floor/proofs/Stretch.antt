@@ -1,21 +1,19 @@
 -- The seats of a row are one stretch of an ordered table.
-use Rattle.std.proofs.Common.{◌≡◌, ℕ, suc, ◌+◌, ◌-◌, ◌<◌, ◌≤◌, Bool, true, false, cond, ◌&&◌, ◌||◌, List, [], ◌∷◌, ◌++◌, map, length, take, drop, filter, sym, refl, ap, ◌∙◌, subst, inl, inr, ⊎_elim, append-nil, arith}
+use Rattle.std.proofs.Common.{◌≡◌, ℕ, ◌+◌, ◌-◌, ◌≤◌, Bool, true, false, cond, List, [], ◌∷◌, ◌++◌, map, length, take, drop, filter, sym, refl, ap, ◌∙◌, subst, append-nil, arith}
 use mathlib.Core.List.{map-append}
 use Rattle.std.proofs.lemmas.List.Edits.{split_between, length-between}
 use Rattle.std.proofs.lemmas.List.Elements.{filter-append}
 use Rattle.std.proofs.ByRecursion.{All-take, All-drop, All-weaker}
 use Rattle.std.proofs.lemmas.List.{drop-drop, take-append-drop, length-map, length-append}
 use Rattle.std.proofs.lemmas.Slice.{between_is}
-use Rattle.std.specs.List.{insert, between, AllByRecursion}
+use Rattle.std.specs.List.{between, AllByRecursion}
 use Rattle.row.proofs.Parts.{between_join, take_join}
 use Rattle.row.proofs.Ranges.{ranged}
-use Rattle.row.specs.Records.{before, row_ahead}
 use Rattle.row.specs.Stack.{Passes}
 use Rattle.row.specs.declared.Cell.{Cell}
 use Rattle.row.specs.declared.Row.{Row}
 use Rattle.table.specs.Order.{Ordered, rank_of}
 use Rattle.table.proofs.Sides.{rank_within, rank_front, rank_back, rank_mono}
-use Rattle.floor.specs.Rows.{same_row}
 use Rattle.floor.specs.Seats.{on_row, seat_ahead, seats_on, cells_on, cell_of, Sited, row_key, start_of, end_of, new_seat, joined}
 use Rattle.floor.specs.declared.Seat.{Seat}
 use Rattle.floor.proofs.Defaults.{no_seat}

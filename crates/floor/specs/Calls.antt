@@ -4,7 +4,7 @@
 --   chosen                 the row of least rise among those that have sites; of equal ones the first in row order
 --   place_answer, seats_after_place     what placing answers, and the seats then
 --   seat_of, spot-of       a standing cell's seat, and where it stands
-use Rattle.std.specs.Prelude.{ℕ, ◌+◌, ◌-◌, Bool, cond, List, [], ◌∷◌, Some, None, Ok, Err, Option, Result, ◌==◌, nat_le}
+use Rattle.std.specs.Prelude.{ℕ, ◌+◌, ◌-◌, cond, List, [], ◌∷◌, Some, None, Ok, Err, Option, Result, ◌==◌, nat_le}
 use Rattle.std.specs.List.{insert}
 use Rattle.std.specs.Option.{option_map, unwrap_or, ok_or}
 use Rattle.row.specs.Records.{row_ahead}

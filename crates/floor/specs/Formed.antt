@@ -1,9 +1,8 @@
 -- What every floor keeps, whatever its measure: plain facts of its rows and seats, as tests.
 --   formed           rows within their ranges, in row order and apart; seats of cells within their ranges, in their order, no number twice,
 --                    each on a standing row, legal and in wanted order
-use Rattle.std.specs.Prelude.{ℕ, ◌+◌, Bool, true, false, not, ◌&&◌, ◌||◌, List, [], ◌∷◌, is_some, ◌==◌, nat_le}
+use Rattle.std.specs.Prelude.{◌+◌, Bool, true, not, ◌&&◌, ◌||◌, List, [], ◌∷◌, is_some, ◌==◌, nat_le}
 use Rattle.row.specs.Records.{cell_fault, row_fault, row_ahead}
-use Rattle.row.specs.declared.Cell.{Cell}
 use Rattle.row.specs.declared.Row.{Row}
 use Rattle.floor.specs.Rows.{share}
 use Rattle.floor.specs.Refusals.{any}

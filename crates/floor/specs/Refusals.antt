@@ -4,7 +4,7 @@
 --   has_sites        whether a row has sites for a cell beside those that stand there
 --   add_refusal, place_refusal     the first check of a call that fails, if one does
 --   stands_by, has_sites_by, place_refusal_by     the same of whatever holds a cell and its row
-use Rattle.std.specs.Prelude.{ℕ, ◌+◌, ◌-◌, Bool, true, false, not, ◌&&◌, ◌||◌, List, [], ◌∷◌, length, Some, None, Option, nat_eq, nat_le, nat_lt}
+use Rattle.std.specs.Prelude.{ℕ, ◌+◌, ◌-◌, Bool, false, not, ◌||◌, List, [], ◌∷◌, length, None, Option, nat_eq, nat_le, nat_lt}
 use Rattle.std.specs.Option.{option_map}
 use Rattle.row.specs.Records.{check, then, cell_fault, row_fault, widths}
 use Rattle.row.specs.Refusals.{fault_number}

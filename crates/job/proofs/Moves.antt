@@ -1,5 +1,5 @@
 -- One move of a cursor after another.
-use Rattle.std.proofs.Common.{◌≡◌, length, sym, ap, ◌∙◌, arith}
+use Rattle.std.proofs.Common.{◌≡◌, length, ap, ◌∙◌, arith}
 use Rattle.job.specs.Reads.{Moved}
 use Rattle.job.specs.declared.cursor.Cursor.{Cursor}
 

@@ -10,7 +10,7 @@
 --   name             the name at a place
 --   row_part, cell_part, withdrawal_part   what follows the kind of a row, of a cell to place or try, and of a withdrawal
 --   read_record      the record at a place: its kind, its map and its fields
-use Rattle.std.specs.Prelude.{ℕ, zero, suc, ◌+◌, ◌/◌, ◌%◌, ◌^◌, Bool, cond, ◌&&◌, List, Some, None, Option, ◌==◌, nat_le, nat_lt}
+use Rattle.std.specs.Prelude.{ℕ, zero, suc, ◌/◌, ◌%◌, ◌^◌, Bool, cond, ◌&&◌, List, Some, None, Option, ◌==◌, nat_le, nat_lt}
 use Rattle.std.specs.List.{between}
 use Rattle.row.specs.declared.Cell.{Cell}
 use Rattle.row.specs.declared.Row.{Row}

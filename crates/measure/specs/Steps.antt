@@ -1,9 +1,9 @@
 -- What one step costs under the two measures, and that both are fair.
 use Rattle.std.specs.Prelude.{◌≡◌, ℕ, ◌+◌, ◌-◌, ◌*◌, ◌^◌, ◌<◌, ◌≤◌, ◌≤ℤ◌}
-use Rattle.std.proofs.Common.{sym, ap, ◌∙◌, inl, inr, ⊎_elim, mul-add, add-mul, mul-one, one-mul, mul-le-mul, mul-le-mul_left, mul-zero, arith}
+use Rattle.std.proofs.Common.{ap, ◌∙◌, ⊎_elim, mul-add, add-mul, mul-one, one-mul, mul-le-mul, mul-le-mul_left, mul-zero, arith}
 use Rattle.std.proofs.lemmas.Int.{ints}
 use Rattle.std.proofs.lemmas.Bool.{cases_lt}
-use Rattle.measure.specs.Costs.{InRange, Fair, step_of}
+use Rattle.measure.specs.Costs.{Fair, step_of}
 use Rattle.measure.specs.Measures.{distance, squared, plain}
 
 -- the square of the next number

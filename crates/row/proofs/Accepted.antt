@@ -1,11 +1,11 @@
 -- What `set` accepts: a row and cells within their ranges, cells in wanted order that fit the row.
-use Rattle.std.proofs.Common.{◌≡◌, ℕ, ◌+◌, ◌-◌, ◌<◌, ◌≤◌, Bool, true, false, cond, ◌&&◌, ◌||◌, eqb, ltb, leb, List, [], ◌∷◌, length, Some, None, Option, sym, refl, ap, ◌∙◌, inl, inr, ⊎_elim, arith}
+use Rattle.std.proofs.Common.{◌≡◌, ℕ, ◌+◌, ◌-◌, ◌≤◌, true, List, [], ◌∷◌, length, Some, None, Option, refl, arith}
 use Rattle.std.proofs.ByRecursion.{All-weaker}
 use Rattle.std.proofs.lemmas.Bool.{and_parts, leb-true, eqb-true}
 use Rattle.std.specs.Option.{option_map}
 use Rattle.std.specs.List.{AllByRecursion}
-use Rattle.row.specs.Records.{then, cell_fault, row_fault, before, widths}
-use Rattle.row.specs.Refusals.{comes_after, cells_refusal, set_refusal}
+use Rattle.row.specs.Records.{then, before, widths}
+use Rattle.row.specs.Refusals.{cells_refusal, set_refusal}
 use Rattle.row.specs.Settings.{EveryPair}
 use Rattle.row.specs.Stack.{Passes}
 use Rattle.row.specs.declared.Cell.{Cell}

@@ -1,12 +1,12 @@
 -- What is known of a row once its clusters are found and its sites are written.
-use Rattle.std.proofs.Common.{◌≡◌, ℕ, ◌+◌, ◌≤◌, List, [], ◌∷◌, ◌++◌, map, reverse, length, take, sym, refl, ap, ◌∙◌, subst, arith}
+use Rattle.std.proofs.Common.{◌≡◌, ℕ, ◌≤◌, List, [], ◌∷◌, map, reverse, length, take, sym, ap, ◌∙◌, subst, arith}
 use mathlib.Core.List.{reverse-cons}
 use Rattle.std.proofs.ByRecursion.{All-push}
 use Rattle.std.proofs.lemmas.List.{take_all, reverse-reverse}
 use Rattle.std.specs.List.{between, AllByRecursion}
 use Rattle.measure.specs.Costs.{Fair}
 use Rattle.row.specs.Clusters.{laid}
-use Rattle.row.specs.Settings.{Placed, placed, Within, Setting}
+use Rattle.row.specs.Settings.{placed, Within}
 use Rattle.row.specs.Sites.{abut, row_clusters, row_sites}
 use Rattle.row.specs.Stack.{InPlaces, cluster_of, stack_of, Tiled, Holds}
 use Rattle.row.specs.declared.Cell.{Cell}

@@ -1,19 +1,19 @@
 -- The setting of a row in the words of its users: settings are legal chains of the theory, so the row's sites are the cheapest setting.
-use Rattle.std.proofs.Common.{◌≡◌, ℕ, suc, ◌+◌, ◌<◌, ◌≤◌, true, List, [], ◌∷◌, length, sym, refl, ap, ◌∙◌, subst, inl, inr, ⊎_elim, arith}
+use Rattle.std.proofs.Common.{◌≡◌, ℕ, suc, ◌+◌, ◌<◌, ◌≤◌, true, List, [], ◌∷◌, length, sym, refl, ap, subst, ⊎_elim, arith}
 use Rattle.std.proofs.ByRecursion.{All-weaker}
 use Rattle.std.proofs.lemmas.Bool.{cases_lt}
 use Rattle.std.specs.List.{AllZip, AllByRecursion}
 use Rattle.measure.specs.Costs.{Fair}
-use Rattle.row.specs.Records.{before, widths}
-use Rattle.row.specs.Settings.{Placed, placed, EveryPair, Covers, Within, Clear, Legal, Rising, InWantedOrder, Setting, Cheapest}
-use Rattle.row.specs.Sites.{best_site, row_sites, sites_cost}
+use Rattle.row.specs.Records.{before}
+use Rattle.row.specs.Settings.{Placed, placed, EveryPair, Within, Clear, Legal, Rising, InWantedOrder, Setting, Cheapest}
+use Rattle.row.specs.Sites.{best_site, row_sites}
 use Rattle.row.specs.Stack.{Passes}
 use Rattle.row.specs.declared.Cell.{Cell}
 use Rattle.row.specs.declared.Row.{Row}
 use Rattle.row.proofs.Accepted.{Accepted, before_once}
 use Rattle.row.proofs.Instance.{lane, tight, next_is, span_is, cost_is, best_is, all_bend, sites_are}
 use Rattle.row.proofs.Ranges.{ranged}
-use Rattle.row.proofs.Theory.Packed.{Lane, next, Chain, NotRight, span, cost}
+use Rattle.row.proofs.Theory.Packed.{Lane, next, Chain, NotRight, span}
 use Rattle.row.proofs.Theory.Cheapest.{Answer, settled_answer}
 
 -- two facts of each element give a third

@@ -10,7 +10,6 @@ use Rattle.setrow.specs.declared.task.NoTask.{NoTask}
 use Rattle.setrow.specs.declared.task.NoTask.TheVariants.{NoMemory, Unreadable as unreadable}
 use Rattle.setrow.specs.declared.task.Reason.{Reason}
 use Rattle.setrow.specs.declared.task.Reason.TheVariants.{Missing, Expected, TooFewWords, TooManyWords, NoSuchMeasure, NotNumber, TooLarge}
-use Rattle.setrow.specs.declared.task.Unreadable.{Unreadable}
 
 abbrev pub usage : Form → List ℕ
 usage Measure = codes "`measure squared` or `measure plain`"

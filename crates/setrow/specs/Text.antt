@@ -7,7 +7,7 @@
 -- filled parts      those of the parts that are not empty
 -- lines text        the parts that end with the byte 10, the line end
 -- words line        the filled parts between blanks: spaces, tabs and carriage returns
-use Rattle.std.specs.Prelude.{ℕ, Bool, true, false, cond, not, ◌||◌, List, [], ◌∷◌, codes, ◌==◌}
+use Rattle.std.specs.Prelude.{ℕ, Bool, false, cond, not, ◌||◌, List, [], ◌∷◌, codes, ◌==◌}
 
 abbrev pub among : List ℕ → ℕ → Bool
 among [] b = false

@@ -1,4 +1,4 @@
-use Rattle.std.proofs.Common.{◌≡◌, ℕ, sym, refl, ◌∙◌, arith}
+use Rattle.std.proofs.Common.{◌≡◌, ℕ, refl, ◌∙◌, arith}
 use Rattle.floor.proofs.Granted.{grants, fills}
 use Rattle.floor.proofs.choice.set_ready.Goals as goal
 

@@ -1,4 +1,4 @@
-use Rattle.std.proofs.Common.{◌≡◌, ap, ◌∙◌, arith}
+use Rattle.std.proofs.Common.{ap, ◌∙◌, arith}
 use Rattle.floor.specs.Seats.{seat_ahead}
 use Rattle.table.specs.Order.{rank_of}
 use Rattle.floor.proofs.Stretch.{found}

@@ -1,8 +1,8 @@
-use Rattle.std.proofs.Common.{◌≡◌, ◌≤◌, sym, ap, ◌∙◌, arith}
+use Rattle.std.proofs.Common.{◌≡◌, sym, ap, ◌∙◌, arith}
 use Rattle.std.specs.List.{between}
 use Rattle.table.specs.Order.{rank_of}
 use Rattle.floor.specs.Seats.{seat_ahead, start_of, end_of}
-use Rattle.floor.proofs.Stretch.{wanted_places, start_end, end_within, seats_stretch}
+use Rattle.floor.proofs.Stretch.{wanted_places, start_end, seats_stretch}
 use Rattle.floor.proofs.seats.stretch_of.Goals as goal
 
 pub returns : goal.returns

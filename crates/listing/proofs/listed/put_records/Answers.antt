@@ -21,7 +21,7 @@ loop-next-preserved c =
     let found = subst P c.in-Some.is (told.answer, told.advances) in
     let turn = record_turn inv.0 here there said before inv.1 found.0 told.after found.1 in
     let line : vec_items c.put_record.new.out ≡ before ++ record_line here.index said =
-    c.in_ok-put_record.ensures refl ∙ ap (λ i. before ++ record_line i said) c.index-index.ensures in
+    c.in_ok-put_record-in-Some.ensures refl ∙ ap (λ i. before ++ record_line i said) c.index-index.ensures in
     (turn.0, turn.1, ap (λ lines. lines ++ record_lines turn.0 there) line ∙ turn.2 ∙ inv.2)
 
 pub returns-in-None : goal.returns-in-None

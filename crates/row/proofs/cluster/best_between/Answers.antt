@@ -1,8 +1,8 @@
-use Rattle.std.proofs.Common.{◌≡◌, ℕ, ◌+◌, ◌-◌, ◌/◌, ◌<◌, ◌≤◌, Bool, true, false, ℤ, pos, sym, ap, ◌∙◌, arith, w64, SFits, to_z, of_z}
+use Rattle.std.proofs.Common.{◌≡◌, ℕ, ◌+◌, ◌-◌, ◌/◌, ◌<◌, Bool, false, ℤ, pos, sym, ap, ◌∙◌, arith, w64, to_z, of_z}
 use lib.Signed.{le_z, mag}
 use Rattle.std.proofs.lemmas.Int.{to_z-of_z}
 use Rattle.row.specs.Sites.{climbs, least}
-use Rattle.row.proofs.Least.{IsLeast, least_is, narrowed, not_after, after}
+use Rattle.row.proofs.Least.{least_is, narrowed, after}
 use Rattle.row.proofs.Rises.{climbs_on}
 use Rattle.row.proofs.cluster.best_between.Goals as goal
 

@@ -1,10 +1,5 @@
-use Rattle.std.proofs.Common.{◌≡◌, ℕ, ◌+◌, ◌-◌, ◌<◌, ◌≤◌, min, max, ◌++◌, sym, refl, ap, ◌∙◌, arith}
+use Rattle.std.proofs.Common.{refl, ◌∙◌, arith}
 use Rattle.std.specs.List.{between}
-use Rattle.row.specs.Records.{widths}
-use Rattle.row.specs.Sites.{best_site}
-use Rattle.row.specs.Stack.{Follows, part}
-use Rattle.row.specs.declared.Cell.{Cell}
-use Rattle.row.specs.declared.cluster.Cluster.{Cluster as Run}
 use Rattle.row.proofs.Accepted.{accepted}
 use Rattle.row.proofs.Instance.{best_least, best_narrowed}
 use Rattle.row.proofs.Parts.{widths_joined, part_known}

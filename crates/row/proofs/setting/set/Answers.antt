@@ -1,4 +1,4 @@
-use Rattle.std.proofs.Common.{◌≡◌, length, Ok, sym, ap, ◌∙◌, subst, arith}
+use Rattle.std.proofs.Common.{length, Ok, sym, ap, ◌∙◌, subst}
 use Rattle.row.specs.Settings.{Cheapest}
 use Rattle.row.specs.Sites.{row_sites, sites_cost}
 use Rattle.row.specs.Task.{granted, changed}

@@ -1,4 +1,4 @@
-use Rattle.std.proofs.Common.{◌≡◌, ◌+◌, ◌<◌, ◌≤◌, true, length, vec_items, vec_len, vec_capacity, sym, ap, ◌∙◌, arith}
+use Rattle.std.proofs.Common.{◌≡◌, ◌≤◌, true, length, vec_items, vec_len, vec_capacity, sym, ap, ◌∙◌, arith}
 use Rattle.floor.specs.Formed.{formed}
 use Rattle.floor.proofs.Placed.{row_chosen, then_ordered, then_sited, then_few, then_ready, then_formed}
 use Rattle.floor.proofs.Ready.{ordered_seats, able}

@@ -1,4 +1,4 @@
-use Rattle.std.proofs.Common.{◌≡◌, ℕ, ◌-◌, ◌++◌, length, take, drop, vec_items, sym, ap, ◌∙◌}
+use Rattle.std.proofs.Common.{◌≡◌, ◌-◌, ◌++◌, take, drop, vec_items, ap, ◌∙◌}
 use Rattle.row.specs.Sites.{row_sites}
 use Rattle.floor.specs.Seats.{cells_on, moved_all}
 use Rattle.floor.proofs.Granted.{from_zero, sites_each}
