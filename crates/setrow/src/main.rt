@@ -16,6 +16,7 @@ mod tests;
 use answer::answer;
 use read::read;
 use std::io::{Read, Write};
+use std::process::ExitCode;
 
 // Answers the task on standard input.
 fn run(rt: &HostRuntime) -> anyhow::Result<()> {
@@ -28,10 +29,12 @@ fn run(rt: &HostRuntime) -> anyhow::Result<()> {
 }
 
 // Where there is no answer, says why on standard error and ends with status 1.
-fn main(rt: HostRuntime) -> anyhow::Result<()> {
-    let done = run(&rt);
-    if let Err(why) = &done {
-        rt.eprintln(why)?;
+fn main(rt: HostRuntime) -> ExitCode {
+    match run(&rt) {
+        Ok(()) => ExitCode::SUCCESS,
+        Err(why) => {
+            let _ = rt.eprintln(why);
+            ExitCode::FAILURE
+        }
     }
-    done
 }
