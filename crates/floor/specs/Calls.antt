@@ -3,7 +3,7 @@
 --   rise                   what a row costs more with a cell more, the line's cost counted
 --   chosen                 the row of least rise among those that have sites; of equal ones the first in row order
 --   place_answer, seats_after_place     what placing answers, and the seats then
---   seat_of, spot-of       a standing cell's seat, and where it stands
+--   seat_of, spot          a standing cell's seat, and where it stands
 use Rattle.std.specs.Prelude.{ℕ, ◌+◌, ◌-◌, cond, List, [], ◌∷◌, Some, None, Ok, Err, Option, Result, ◌==◌, nat_le}
 use Rattle.std.specs.List.{insert}
 use Rattle.std.specs.Option.{option_map, unwrap_or, ok_or}
