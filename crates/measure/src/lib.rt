@@ -1,10 +1,14 @@
-// What a move costs: the trait `Measure`, and the two measures `Squared` and `Plain`.
+// What a move costs: the trait `Measure`, the two measures `Squared` and `Plain`, and their names.
 #![tactic(auto)]
 
 ghost use Rattle.std.specs.Prelude.{◌≡◌, ℕ};
 ghost use Rattle.measure.specs.Costs.{Fair, cost_of, rise_of, step_of};
 ghost use Rattle.measure.specs.Measures.{squared, plain};
 ghost use Rattle.measure.specs.Steps.{squared_fair, plain_fair};
+
+mod name;
+
+pub use name::{MeasureName, UnknownMeasure};
 
 // The greatest place and wanted place, and the greatest weight.
 pub const LAST_PLACE: u32 = 65_535;
