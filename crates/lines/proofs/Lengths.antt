@@ -1,18 +1,14 @@
 -- How long lines and their parts are.
-use Rattle.std.proofs.Common.{◌≡◌, ℕ, ◌+◌, ◌^◌, ◌<◌, ◌≤◌, List, length, Some, None, decimal, Option, refl, ap, ◌∙◌, arith, length-append, Bor}
+use Rattle.std.proofs.Common.{◌≡◌, ℕ, ◌+◌, ◌^◌, ◌<◌, ◌≤◌, List, length, Some, None, decimal, Option, sym, subst, arith, length-append, Bor}
 use Rattle.std.proofs.lemmas.Fmt.{length-decimal-le}
 use Rattle.lines.specs.Texts.{ending, name_bytes, name_of, text}
 use Rattle.lines.specs.declared.Line.{Line}
 use Rattle.lines.specs.declared.Line.TheVariants.{Granted, Seated, Refused, Unreadable, Cell, Cost}
 
--- a name, a space and a newline
-pub ending_some : (name : Option (Bor (List ℕ))) (x : Bor (List ℕ)) → name ≡ Some x → length (ending name) ≡ length x.now + 2
-ending_some name x is = ap (λ n. length (ending n)) is ∙ simp length-append (omega arith)
-
 -- what ends a line has at most two bytes more than the name
 pub ending_length : (name : Option (Bor (List ℕ))) → length (ending name) ≤ length (name_bytes name) + 2
 ending_length None = omega arith
-ending_length (Some x) = omega (arith, ending_some (Some x) x refl)
+ending_length (Some x) = simp length-append (omega arith)
 
 -- a number of 32 bits has at most ten digits
 pub ten_digits : (n : ℕ) → n < 2 ^ 32 → length (decimal n) ≤ 10
@@ -32,7 +28,7 @@ InWidths (Cell number line site) = (number < 2 ^ 32) × (line < 2 ^ 32) × (site
 InWidths (Cost cost) = cost < 2 ^ 64
 
 -- all but the name takes at most 58 bytes
-pub text_length : (line : Line) → InWidths line → length (text line) ≤ 58 + length (name_of line)
+text_length : (line : Line) → InWidths line → length (text line) ≤ 58 + length (name_of line)
 text_length (Granted index name) w =
     simp length-append (omega (arith, ten_digits index w, ending_length name))
 text_length (Seated index line site rise name) w =
@@ -44,3 +40,7 @@ text_length (Unreadable index number place) w =
 text_length (Cell number line site) w =
     simp length-append (omega (arith, ten_digits number w.0, ten_digits line w.1, ten_digits site w.2))
 text_length (Cost cost) w = simp length-append (omega (arith, twenty_digits cost w))
+
+-- and so in a line that has that form
+pub text_length_at : {line form : Line} → line ≡ form → InWidths form → length (text line) ≤ 58 + length (name_of line)
+text_length_at {line} {form} is wide = subst (λ l. length (text l) ≤ 58 + length (name_of l)) (sym is) (text_length form wide)
