@@ -1,10 +1,8 @@
 -- One put after another, and a write to the buffer as a put.
-use Rattle.std.proofs.Common.{◌≡◌, ℕ, ◌+◌, ◌≤◌, List, ◌++◌, length, take, drop, sym, ap, ◌∙◌, subst, append_assoc, add_assoc, arith, length-append}
+use Rattle.std.proofs.Common.{◌≡◌, ℕ, ◌+◌, List, ◌++◌, length, drop, sym, ap, ◌∙◌, append_assoc, arith, length-append}
 use Rattle.std.proofs.lemmas.List.{drop-drop}
 use Rattle.lines.specs.Fronts.{Puts, so_far}
-use Rattle.lines.specs.Texts.{text}
 use Rattle.lines.specs.declared.front.Front.{Front}
-use Rattle.lines.specs.declared.Line.{Line}
 
 -- what lies past the second put stays in the first
 past : {a b : Front} {s : List ℕ} (k : ℕ) → Puts a s b → drop (b.end + k) b.buffer.now ≡ drop (b.end + k) a.buffer.now
@@ -20,7 +18,3 @@ puts_then {a} {b} {c} {s} {t} p q =
       front = q.front ∙ ap (λ xs. xs ++ t) p.front ∙ append_assoc (so_far a) s t;
       rest = q.rest ∙ (let e : c.end ≡ b.end + length t = q.ends in rw e (past (length t) p));
     }
-
--- the text of a line is put where the text of its form is
-pub puts_text : {a b : Front} {line form : Line} → line ≡ form → Puts a (text form) b → Puts a (text line) b
-puts_text {a} {b} {line} {form} is p = subst (λ l. Puts a (text l) b) (sym is) p

@@ -1,5 +1,5 @@
 -- How long lines and their parts are.
-use Rattle.std.proofs.Common.{◌≡◌, ℕ, ◌+◌, ◌^◌, ◌<◌, ◌≤◌, List, length, Some, None, decimal, Option, sym, subst, arith, length-append, Bor}
+use Rattle.std.proofs.Common.{ℕ, ◌+◌, ◌^◌, ◌<◌, ◌≤◌, List, length, Some, None, decimal, Option, arith, length-append, Bor}
 use Rattle.std.proofs.lemmas.Fmt.{length-decimal-le}
 use Rattle.lines.specs.Texts.{ending, name_bytes, name_of, text}
 use Rattle.lines.specs.declared.Line.{Line}
@@ -28,7 +28,7 @@ InWidths (Cell number line site) = (number < 2 ^ 32) × (line < 2 ^ 32) × (site
 InWidths (Cost cost) = cost < 2 ^ 64
 
 -- all but the name takes at most 58 bytes
-text_length : (line : Line) → InWidths line → length (text line) ≤ 58 + length (name_of line)
+pub text_length : (line : Line) → InWidths line → length (text line) ≤ 58 + length (name_of line)
 text_length (Granted index name) w =
     simp length-append (omega (arith, ten_digits index w, ending_length name))
 text_length (Seated index line site rise name) w =
@@ -40,7 +40,3 @@ text_length (Unreadable index number place) w =
 text_length (Cell number line site) w =
     simp length-append (omega (arith, ten_digits number w.0, ten_digits line w.1, ten_digits site w.2))
 text_length (Cost cost) w = simp length-append (omega (arith, twenty_digits cost w))
-
--- and so in a line that has that form
-pub text_length_at : {line form : Line} → line ≡ form → InWidths form → length (text line) ≤ 58 + length (name_of line)
-text_length_at {line} {form} is wide = subst (λ l. length (text l) ≤ 58 + length (name_of l)) (sym is) (text_length form wide)

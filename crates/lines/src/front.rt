@@ -1,4 +1,5 @@
 // The front of a lent buffer, filled from its first byte on.
+// It is not filled by `write!`, whose contract does not say when it succeeds; a name is bytes and not text.
 ghost use Rattle.std.specs.Prelude.{◌++◌, codes};
 ghost use Rattle.lines.specs.Fronts.{HasRoom, Puts};
 ghost use Rattle.lines.specs.Texts.{ending};

@@ -68,11 +68,12 @@ impl ShortBuffer {
     }
 }
 
-impl<'a> Line<'a> {
+impl Line<'_> {
     // The line's name, where it has one; all else takes at most 58 bytes.
     // The numbers are bound because their widths limit the text.
     #[allow(unused_variables)]
-    fn name(&self) -> Option<&'a [u8]>
+    #[tactic(auto, using(crate::proofs::Lengths::text_length))]
+    fn name(&self) -> Option<&[u8]>
         ensures value { name_bytes result ≡ name_of self.now }
         ensures others { length (text self.now) ≤ 58 + length (name_of self.now) }
     {
