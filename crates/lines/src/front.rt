@@ -13,6 +13,7 @@ pub(crate) struct Front<'a> {
     pub(crate) end: usize,
 }
 
+// Each put asks for the room of its own bytes, so no one fact about the struct can stand for all.
 impl Front<'_> {
     // Puts bytes behind those that stand there.
     pub(crate) fn put(&mut self, bytes: &[u8])
