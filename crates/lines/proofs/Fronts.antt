@@ -1,4 +1,4 @@
--- One put after another, and a write to the buffer as a put.
+-- One put after another.
 use Rattle.std.proofs.Common.{◌≡◌, ℕ, ◌+◌, List, ◌++◌, length, drop, sym, ap, ◌∙◌, append_assoc, arith, length-append}
 use Rattle.std.proofs.lemmas.List.{drop-drop}
 use Rattle.lines.specs.Fronts.{Puts, so_far}

@@ -6,16 +6,16 @@ use Rattle.lines.specs.declared.Line.{Line}
 use Rattle.lines.specs.declared.Line.TheVariants.{Granted, Seated, Refused, Unreadable, Cell, Cost}
 
 -- what ends a line has at most two bytes more than the name
-pub ending_length : (name : Option (Bor (List ℕ))) → length (ending name) ≤ length (name_bytes name) + 2
+ending_length : (name : Option (Bor (List ℕ))) → length (ending name) ≤ length (name_bytes name) + 2
 ending_length None = omega arith
 ending_length (Some x) = simp length-append (omega arith)
 
 -- a number of 32 bits has at most ten digits
-pub ten_digits : (n : ℕ) → n < 2 ^ 32 → length (decimal n) ≤ 10
+ten_digits : (n : ℕ) → n < 2 ^ 32 → length (decimal n) ≤ 10
 ten_digits n small = length-decimal-le 10 n (omega arith) (omega arith) (omega arith)
 
 -- a number of 64 bits has at most twenty
-pub twenty_digits : (n : ℕ) → n < 2 ^ 64 → length (decimal n) ≤ 20
+twenty_digits : (n : ℕ) → n < 2 ^ 64 → length (decimal n) ≤ 20
 twenty_digits n small = length-decimal-le 20 n (omega arith) (omega arith) (omega arith)
 
 -- the numbers of a line are within the widths that they are kept in

@@ -101,7 +101,7 @@ impl Line<'_> {
         }
     }
 
-    // Puts the line's text.
+    // Puts the line's text behind what the front holds.
     fn put(self, front: &mut Front)
         requires room { HasRoom front.old (text self) }
         ensures { Puts front.old (text self.entry) front.new }
