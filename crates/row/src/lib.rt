@@ -5,6 +5,7 @@ mod check;
 mod cluster;
 mod order;
 mod setting;
+mod task;
 
 pub use setting::set;
 
