@@ -8,11 +8,11 @@ use Rattle.measure.specs.Costs.{Fair}
 use Rattle.row.specs.Clusters.{laid}
 use Rattle.row.specs.Settings.{placed, Within}
 use Rattle.row.specs.Sites.{abut, row_clusters, row_sites}
-use Rattle.row.specs.Stack.{InPlaces, cluster_of, stack_of, Tiled, Holds}
+use Rattle.row.specs.Stack.{Ready, InPlaces, cluster_of, stack_of, Tiled, Holds}
 use Rattle.row.specs.declared.Cell.{Cell}
 use Rattle.row.specs.declared.Row.{Row}
 use Rattle.row.specs.declared.cluster.Cluster.{Cluster as Run}
-use Rattle.row.proofs.Accepted.{Accepted}
+use Rattle.row.proofs.Accepted.{Accepted, ready_known}
 use Rattle.row.proofs.Laying.{Laid, lay_all}
 use Rattle.row.proofs.Instance.{lane, span_is}
 use Rattle.row.proofs.Stacked.{prefix_sound}
@@ -41,21 +41,29 @@ module _ (f : ℕ → ℕ → ℕ → ℕ) (row : Row) (cells : List Cell) (n : 
       let right = a.ranged.right in
       (omega arith, sound_places ks k.first tiled.1 sound.1)
 
-  module _ (runs : List Run) (h : Holds f row cells (length cells) runs) where
-    clusters_are : stack_of cells runs ≡ row_clusters f row cells
-    clusters_are = h.clusters ∙ ap (row_clusters f row) (take_all (length cells) cells (omega arith))
-
-    pub in_places : AllByRecursion InPlaces runs
-    in_places =
-        let sound : Sound (lane f row) (stack_of cells runs) = subst (Sound (lane f row)) (sym h.clusters) (prefix_sound fair a (length cells)) in
-        subst (AllByRecursion InPlaces) (reverse-reverse runs) (all_reverse InPlaces (reverse runs) (sound_places (reverse runs) (length cells) h.tiled sound))
-
-    -- the sites of all runs are the row's
-    pub laid_are : (i past : ℕ) (sites : List ℕ) → length runs ≤ i → length sites ≡ length cells → Laid cells runs i past sites → sites ≡ row_sites f row cells
-    laid_are i past sites all each l = lay_all cells runs i past sites h.tiled all each l ∙ ap (laid abut) clusters_are
-
   pub row_each : length (row_sites f row cells) ≡ length cells
   row_each = (row_cheapest f row fair cells n a).setting.each
 
   pub row_places : AllByRecursion (λ y. y ≤ 65535) (row_sites f row cells)
   row_places = all_places row cells (row_sites f row cells) a.ranged.right row_each (row_cheapest f row fair cells n a).setting.legal.0
+
+-- Runs that are the row's clusters.
+module _ {f : ℕ → ℕ → ℕ → ℕ} {row : Row} {cells : List Cell} {runs items : List Run} (fair : Fair f) (ready : Ready row cells) (same : runs ≡ items) (h : Holds f row cells (length cells) items) where
+  abbrev a : Accepted row cells (length cells)
+  a = ready_known row cells ready
+
+  pub all_tiled : Tiled cells (length cells) (reverse runs)
+  all_tiled = subst (λ ks. Tiled cells (length cells) (reverse ks)) (sym same) h.tiled
+
+  pub in_places : AllByRecursion InPlaces runs
+  in_places =
+      let sound : Sound (lane f row) (stack_of cells items) = subst (Sound (lane f row)) (sym h.clusters) (prefix_sound fair a (length cells)) in
+      let back : AllByRecursion InPlaces (reverse items) = sound_places f row cells (length cells) fair a (reverse items) (length cells) h.tiled sound in
+      subst (AllByRecursion InPlaces) (reverse-reverse items ∙ sym same) (all_reverse InPlaces (reverse items) back)
+
+  -- once the sites of all of them are written, they are the row's
+  pub laid_are : {i past : ℕ} {sites : List ℕ} → length runs ≤ i → length sites ≡ length cells → Laid cells runs i past sites → sites ≡ row_sites f row cells
+  laid_are all each l =
+      lay_all cells runs _ _ _ all_tiled all each l
+      ∙ ap (λ ks. laid abut (stack_of cells ks)) same
+      ∙ ap (laid abut) (h.clusters ∙ ap (row_clusters f row) (take_all (length cells) cells (omega arith)))

@@ -13,7 +13,8 @@ use Rattle.row.specs.declared.Cell.{Cell}
 use Rattle.row.specs.declared.Refusal.TheVariants.{OutOfRange, Order}
 use Rattle.row.specs.declared.Row.{Row}
 use Rattle.row.specs.declared.cluster.Cluster.{Cluster as Run}
-use Rattle.row.proofs.Accepted.{both, Accepted, accepted}
+use Rattle.row.proofs.Accepted.{both, Accepted, ready_known}
+use Rattle.row.proofs.Defaults.{no_cell}
 use Rattle.row.proofs.Ranges.{passed}
 
 -- a front part of a list, cut once more
@@ -62,6 +63,7 @@ pub record PartKnown (row : Row) (cs : List Cell) : Type 0 where
   pub few : length cs ≤ 1024
   pub pass : AllByRecursion Passes cs
   pub room : row.left + widths cs ≤ row.right
+  pub right : row.right ≤ 65535
 
 pub part_known : {row : Row} {cells : List Cell} {count : ℕ} → Accepted row cells count → (a b : ℕ) → PartKnown row (between a b cells)
 part_known {row} {cells} {count} accepted a b =
@@ -72,6 +74,7 @@ part_known {row} {cells} {count} accepted a b =
       few = omega (arith, accepted.few);
       pass = All-take Passes (b - a) (drop a cells) (All-drop Passes a cells accepted.pass);
       room = omega (arith, accepted.room);
+      right = accepted.ranged.right;
     }
 
 -- two lots of checks that both let pass
@@ -111,7 +114,7 @@ part_ready row cells a b ready =
     let row_first = both _ _ ready in
     let sizes = passed _ _ _ row_first.1 in
     let by_cell = both _ _ sizes.1 in
-    let known = part_known (accepted row cells _ ready) a b in
+    let known = part_known (ready_known row cells ready) a b in
     neither _ _ row_first.0
     (let_pass _ _ _ (and_true _ _ (le-leb _ _ known.few) (eq-eqb _ _ refl))
     (neither _ _ (taken None (b - a) (drop a cells) (dropped a cells by_cell.0))
@@ -127,10 +130,19 @@ part_joined {cells} {b} {k} h =
     let high : k.first ≤ k.past = omega arith in
     ap (λ l. l ++ part cells k) seam ∙ between_join cells b.first k.first k.past low high
 
-pub widths_joined : {cells : List Cell} {b k : Run} → Follows cells b k → b.width + k.width ≡ widths (between b.first k.past cells)
+widths_joined : {cells : List Cell} {b k : Run} → Follows cells b k → b.width + k.width ≡ widths (between b.first k.past cells)
 widths_joined {cells} {b} {k} h =
     let one = h.one.wide in
     let two = h.two.wide in
     let sum = widths-append (part cells b) (part cells k) in
     let whole = ap widths (part_joined h) in
     omega arith
+
+-- what is known of one cell as a part, and of two runs as one
+pub one_known : (row : Row) (cells : List Cell) (i : ℕ) → Ready row cells → i < length cells → PartKnown row (between i (i + 1) cells) × (widths (between i (i + 1) cells) ≡ (get_or cells i no_cell).width)
+one_known row cells i ready within =
+    let one = ap widths (between_one cells i no_cell within) in
+    (part_known (ready_known row cells ready) i (i + 1), omega arith)
+
+pub pair_known : (row : Row) (cells : List Cell) {b k : Run} → Ready row cells → Follows cells b k → PartKnown row (between b.first k.past cells) × (b.width + k.width ≡ widths (between b.first k.past cells))
+pair_known row cells {b} {k} ready follows = (part_known (ready_known row cells ready) b.first k.past, widths_joined follows)

@@ -29,6 +29,7 @@ impl Refusal {
     pub fn number(self) -> u32
         ensures { result ≡ number_of self }
     {
+        // A match, since one of the variants holds a fault, so that the enum has no numbers of its own.
         match self {
             Refusal::OutOfRange(fault) => fault.number(),
             Refusal::Size => 12,

@@ -19,6 +19,7 @@ fn abut_from(cells: &[Cell], start: u32, sites: &mut [u32])
     ensures { sites.new ≡ abut cells.now start }
 {
     let mut site = start;
+    // By place, since a proof knows nothing of what is written through a `zip` with `iter_mut`.
     for (i, cell) in cells.iter().enumerate() {
         sites[i] = site;
         site += cell.width;

@@ -58,7 +58,7 @@ impl<'a, M: Measure> Task<'a, M> {
     {
         let mut from = low;
         let mut to = high;
-        // A loop, since std's `partition_point` halves a slice and this halves a range of sites.
+        // Halved by hand, since std's `partition_point` halves a slice, and this is a range of sites.
         while from < to {
             let middle = from + (to - from) / 2;
             let climbs = self.rise_from(middle) >= 0;
