@@ -1,9 +1,9 @@
 -- The clusters that the program keeps, and the stack of the theory.
-use Rattle.std.proofs.Common.{◌≡◌, ℕ, ◌+◌, ◌-◌, ◌<◌, ◌≤◌, true, false, ltb, List, [], ◌∷◌, ◌++◌, map, reverse, length, get_or, take, Some, sym, refl, ap, ◌∙◌, subst, arith}
+use Rattle.std.proofs.Common.{◌≡◌, ℕ, ◌+◌, ◌-◌, ◌<◌, ◌≤◌, true, false, ltb, List, [], ◌∷◌, ◌++◌, map, reverse, length, get_or, take, Some, sym, refl, ap, ◌∙◌, subst, ⊎_elim, arith}
 use Rattle.std.proofs.lemmas.List.Edits.{length-between}
 use Rattle.std.proofs.ByRecursion.{All-take, All-get_or}
 use Rattle.std.proofs.lemmas.List.{take_more, take_all, reverse-append, length-reverse}
-use Rattle.std.proofs.lemmas.Option.{slice_get_within, get_or_from_slice_get}
+use Rattle.std.proofs.lemmas.Option.{slice_get_within, get_or_from_slice_get, slice_get_cases}
 use Rattle.std.proofs.lemmas.Bool.{cond-true, cond-false, lt-ltb, le-ltb}
 use Rattle.std.specs.List.{between, slice_get}
 use Rattle.measure.specs.Costs.{Fair}
@@ -90,7 +90,7 @@ abbrev pub Rests : (ℕ → ℕ → ℕ → ℕ) → Row → List Cell → List 
 Rests f row cells runs last = push reaches (best_site f row) (cluster_of cells last) (stack_of cells runs) ≡ cluster_of cells last ∷ stack_of cells runs
 
 -- so it is where there are none
-pub rests_alone : (f : ℕ → ℕ → ℕ → ℕ) (row : Row) (cells : List Cell) (runs : List Run) (last : Run) → length runs ≡ 0 → Rests f row cells runs last
+rests_alone : (f : ℕ → ℕ → ℕ → ℕ) (row : Row) (cells : List Cell) (runs : List Run) (last : Run) → length runs ≡ 0 → Rests f row cells runs last
 rests_alone f row cells [] last none = refl
 rests_alone f row cells (k ∷ ks) last none = absurd (omega arith)
 
@@ -221,14 +221,22 @@ module _ {f : ℕ → ℕ → ℕ → ℕ} {row : Row} {cells : List Cell} {n : 
           }
 
     -- where it does not overlap, it is put on top
-    pub rests : b.site + b.width ≤ last.site → Rests f row cells runs last
-    rests clear =
+    rests_on : b.site + b.width ≤ last.site → Rests f row cells runs last
+    rests_on clear =
         let rest = stack_of cells others in
         let both : List Cell = part cells b ++ part cells last in
         let test : ltb last.site (b.site + widths (part cells b)) ≡ false = le-ltb last.site (b.site + widths (part cells b)) (omega (arith, tiled_top.0.wide)) in
         ap (push reaches (best_site f row) (cluster_of cells last)) stack_top
         ∙ cond-false (ltb last.site (b.site + widths (part cells b))) (push reaches (best_site f row) (at_best reaches (best_site f row) both) rest) (cluster_of cells last ∷ cluster_of cells b ∷ rest) test
         ∙ sym (ap (λ s. cluster_of cells last ∷ s) stack_top)
+
+  -- where no run on top ends behind its site, it rests on the others
+  pub rests : {past : ℕ} {runs : List Run} {last : Run} → past ≤ length cells → Pushing f row cells past runs last → ((b : Run) → Some b ≡ slice_get runs (length runs - 1) → b.site + b.width ≤ last.site) → Rests f row cells runs last
+  rests {past} {runs} {last} within p clear =
+      ⊎_elim
+      (λ found. rests_on within (top_of runs found.0 (sym found.2)) p (clear found.0 (sym found.2)))
+      (λ none. let past_end = none.0 in rests_alone f row cells runs last (omega arith))
+      (slice_get_cases runs (length runs - 1)).1
 
   -- the last cluster put on those that it rests on
   pub finish : {past : ℕ} {runs : List Run} {last : Run} → Pushing f row cells past runs last → Rests f row cells runs last → Holds f row cells past (runs ++ last ∷ [])

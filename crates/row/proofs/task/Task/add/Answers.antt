@@ -1,9 +1,10 @@
-use Rattle.std.proofs.Common.{◌≡◌, length, arith}
+use Rattle.std.proofs.Common.{◌≡◌, ◌+◌, ◌-◌, ◌≤◌, Some, length, arith}
+use Rattle.std.specs.List.{slice_get}
+use Rattle.row.specs.declared.cluster.Cluster.{Cluster as Run}
 use Rattle.std.proofs.lemmas.Grind.{common_steps}
 use Rattle.row.proofs.Accepted.{ready_known}
-use Rattle.row.proofs.Stacked.{top_of, few_runs, start, end_fits, follows, bracketed, again, Rests, rests_alone, rests, finish}
+use Rattle.row.proofs.Stacked.{top_of, few_runs, start, end_fits, follows, bracketed, again, rests, finish}
 use Rattle.row.proofs.task.Task.add.Goals as goal
-use Rattle.row.proofs.task.Task.add.Goals.{in-None-1, in-Some+else-last-end}
 
 pub loop-last-init : goal.loop-last-init
 loop-last-init g c =
@@ -48,9 +49,5 @@ returns g c =
     let f = g.M.Measure.price c.args.self.now.measure.now in
     let fair = g.met.M.Measure.fair c.args.self.now.measure.now in
     let runs = c.loop-last.clusters.items in
-    let rested : Rests f c.args.self.now.row c.args.self.now.cells.now runs c.loop-last.last =
-    elim c.match-last.branch [
-      | in-None-1 w ↦ let none : length runs ≡ 0 = grind (arith, common_steps) in rests_alone f c.args.self.now.row c.args.self.now.cells.now runs c.loop-last.last none
-      | in-Some+else-last-end w ↦ rests fair a (omega arith) (top_of runs w.in-Some.field-0.now (rw c.deref.ensures.0 at w.in-Some.ensures.value)) c.loop-last.invariant (omega arith)
-    ] in
-    rw c.push.ensures.items (finish fair a c.loop-last.invariant rested)
+    let clear : (b : Run) → Some b ≡ slice_get runs (length runs - 1) → b.site + b.width ≤ c.loop-last.last.site = λ b top. grind (arith, common_steps) in
+    rw c.push.ensures.items (finish fair a c.loop-last.invariant (rests fair a (omega arith) c.loop-last.invariant clear))
