@@ -19,7 +19,7 @@ fn abut_from(cells: &[Cell], start: u32, sites: &mut [u32])
     ensures { sites.new ≡ abut cells.now start }
 {
     let mut site = start;
-    // By place, since a proof knows nothing of what is written through a `zip` with `iter_mut`.
+    // By place: of what a `zip` with `iter_mut` has written an invariant has no name, so the proof does not close.
     for (i, cell) in cells.iter().enumerate() {
         sites[i] = site;
         site += cell.width;
