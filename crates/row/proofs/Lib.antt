@@ -2,6 +2,7 @@ pub mod Accepted
 pub mod Defaults
 pub mod Finished
 pub mod Instance
+pub mod Laying
 pub mod Least
 pub mod Parts
 pub mod Ranges
