@@ -9,28 +9,17 @@ use std::alloc::{AllocError, Global};
 use std::io;
 use std::io::{Read, Write};
 
-// The value of a hexadecimal digit.
+// The value of a hexadecimal digit, and 0 for any other byte.
 fn digit_of(byte: u8) -> u8
     ensures { result < 16 }
 {
-    match byte {
-        b'0'..=b'9' => byte - b'0',
-        b'A'..=b'F' => byte - b'A' + 10,
-        _ => 0,
-    }
+    char::from(byte).to_digit(16).unwrap_or(0) as u8
 }
 
 // Adds the bytes of a word, two digits each.
 fn put_bytes(bytes: &mut Vec<u8>, word: &str) -> Result<(), AllocError> {
-    let mut high: Option<u8> = None;
-    for digit in word.bytes() {
-        match high {
-            None => high = Some(digit_of(digit)),
-            Some(first) => {
-                bytes.push(first.wrapping_mul(16).wrapping_add(digit_of(digit)))?;
-                high = None;
-            }
-        }
+    for pair in word.as_bytes().chunks_exact(2) {
+        bytes.push(16 * digit_of(pair[0]) + digit_of(pair[1]))?;
     }
     Ok(())
 }
@@ -40,7 +29,7 @@ fn put_words(bytes: &mut Vec<u8>, line: &str) -> Result<(), AllocError> {
     let mut times = 1usize;
     for word in line.split(' ') {
         match word.strip_prefix('x') {
-            Some(count) => times = count.parse::<usize>().unwrap_or(0),
+            Some(count) => times = count.parse().unwrap_or(0),
             None => {
                 for _ in 0..times {
                     put_bytes(bytes, word)?;

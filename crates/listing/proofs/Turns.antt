@@ -9,22 +9,24 @@ use Rattle.listing.specs.Lines.{record_line, with_line, record_lines}
 abbrev pub Enough : ℕ → Standing → Type 0
 Enough most s = length s.job - s.place < most
 
--- a record's line, and then the lines from where the reader stands after it
-pub record_turn : (most : ℕ) (s t : Standing) (c : Content) (before : List ℕ) → Enough most s → Ok (Some c) ≡ next_answer s → t ≡ next_standing s → Passed s c t → (fewer : ℕ) × Enough fewer t × ((before ++ record_line s.index c) ++ record_lines fewer t ≡ before ++ record_lines most s)
-record_turn zero s t c before enough answer after passed = absurd (omega arith)
-record_turn (suc fewer) s t c before enough answer after passed =
+-- a record's line is added, and the lines from where the reader stands after it are still to come
+pub record_turn : (most i : ℕ) (s t : Standing) (c : Content) (before out all : List ℕ) → Enough most s → Ok (Some c) ≡ next_answer s → t ≡ next_standing s → Passed s c t → i ≡ s.index → out ≡ before ++ record_line i c → before ++ record_lines most s ≡ all → (fewer : ℕ) × Enough fewer t × (out ++ record_lines fewer t ≡ all)
+record_turn zero i s t c before out all enough answer after passed index line whole = absurd (omega arith)
+record_turn (suc fewer) i s t c before out all enough answer after passed index line whole =
     let long : length t.job ≡ length s.job = ap length passed.same in
-    let line = record_line s.index c in (
+    let here = record_line s.index c in (
       fewer,
       omega (arith, passed.forward, passed.within),
-      append_assoc before line (record_lines fewer t)
-          ∙ ap (λ u. before ++ (line ++ record_lines fewer u)) after
-          ∙ ap (λ a. before ++ with_line s.index a (record_lines fewer (next_standing s))) answer,
+      ap (λ lines. lines ++ record_lines fewer t) (line ∙ ap (λ k. before ++ record_line k c) index)
+          ∙ append_assoc before here (record_lines fewer t)
+          ∙ ap (λ u. before ++ (here ++ record_lines fewer u)) after
+          ∙ ap (λ a. before ++ with_line s.index a (record_lines fewer (next_standing s))) answer
+          ∙ whole,
     )
 
--- the last line, or none
-pub last_turn : (most : ℕ) (s : Standing) (a : Result (Option Content) Fault) (lines : List ℕ) → Enough most s → a ≡ next_answer s → ((others : List ℕ) → with_line s.index a others ≡ lines) → record_lines most s ≡ lines
-last_turn zero s a lines enough answer last = absurd (omega arith)
-last_turn (suc fewer) s a lines enough answer last =
+-- the last line is added, or none
+pub last_turn : (most : ℕ) (s : Standing) (a : Result (Option Content) Fault) (before lines out all : List ℕ) → Enough most s → a ≡ next_answer s → ((others : List ℕ) → with_line s.index a others ≡ lines) → out ≡ before ++ lines → before ++ record_lines most s ≡ all → out ≡ all
+last_turn zero s a before lines out all enough answer last line whole = absurd (omega arith)
+last_turn (suc fewer) s a before lines out all enough answer last line whole =
     let others = record_lines fewer (next_standing s) in
-    sym (ap (λ b. with_line s.index b others) answer) ∙ last others
+    line ∙ ap (λ end. before ++ end) (sym (last others) ∙ ap (λ b. with_line s.index b others) answer) ∙ whole

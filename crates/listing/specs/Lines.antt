@@ -7,16 +7,14 @@
 --   Appends          a call that does not fail for want of memory has added these bytes
 use Rattle.std.specs.Prelude.{◌≡◌, ℕ, zero, suc, ◌+◌, true, List, [], ◌∷◌, ◌++◌, length, is_ok, Some, None, Ok, Err, vec_items, codes, decimal, Option, Result, Vec}
 use Rattle.std.specs.declared.alloc.Global.{Global}
-use Rattle.job.specs.Causes.{number_of}
+use Rattle.job.specs.Causes.{fault_text}
 use Rattle.job.specs.Format.{Named, CellNamed, Content}
 use Rattle.job.specs.Format.Content.{row, place, withdraw, try}
 use Rattle.job.specs.Opening.{Opened, open_answer}
 use Rattle.job.specs.Reading.{Standing, at_start, next_answer, next_standing}
-use Rattle.job.specs.declared.record.Cause.{Cause}
-use Rattle.job.specs.declared.record.Cause.TheVariants.{TooLong, EndsEarly, UnknownKind, WrongMap, BadName, UnknownMeasure}
 use Rattle.job.specs.declared.record.Fault.{Fault}
-use Rattle.job.specs.declared.record.MeasureName.{MeasureName}
-use Rattle.job.specs.declared.record.MeasureName.TheVariants.{Squared, Plain}
+use Rattle.measure.specs.Names.{word}
+use Rattle.measure.specs.declared.name.MeasureName.{MeasureName}
 use Rattle.row.specs.declared.Cell.{Cell}
 use Rattle.row.specs.declared.Row.{Row}
 
@@ -25,8 +23,7 @@ abbrev pub end_of_line : List ℕ
 end_of_line = 10 ∷ []
 
 abbrev pub measure_line : MeasureName → List ℕ
-measure_line Squared = codes "measure squared" ++ end_of_line
-measure_line Plain = codes "measure plain" ++ end_of_line
+measure_line measure = (codes "measure " ++ word measure) ++ end_of_line
 
 -- a row's fields
 abbrev pub row_text : ℕ → Row → List ℕ
@@ -54,19 +51,6 @@ record_line index (row r) = row_text index r ++ end_of_line
 record_line index (place c) = cell_line index (codes "place") c
 record_line index (withdraw number) = withdrawal_text index number ++ end_of_line
 record_line index (try c) = cell_line index (codes "try") c
-
--- why a job or a record is refused, in words
-abbrev pub reason : Cause → List ℕ
-reason TooLong = codes "the job is longer than 65535 bytes"
-reason EndsEarly = codes "the job ends too early"
-reason UnknownKind = codes "the kind is unknown"
-reason WrongMap = codes "the bit map lacks a required bit or has one that its kind lacks"
-reason BadName = codes "a name of length 0 or with a byte outside 21 to 7E"
-reason UnknownMeasure = codes "the first byte names no measure"
-
-abbrev pub fault_text : Fault → List ℕ
-fault_text f =
-    decimal f.index ++ (codes " bad byte " ++ (decimal f.place ++ (codes ": refusal " ++ (decimal (number_of f.cause) ++ (codes ", " ++ reason f.cause)))))
 
 abbrev pub fault_line : Fault → List ℕ
 fault_line f = fault_text f ++ end_of_line

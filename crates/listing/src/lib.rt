@@ -3,7 +3,6 @@
 
 mod listed;
 mod parts;
-mod words;
 
 pub use listed::put_job;
 pub use parts::put_line;

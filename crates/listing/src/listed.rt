@@ -8,30 +8,28 @@ use job::{Job, Reader};
 use std::alloc::{AllocError, Global};
 
 // Adds a line for each record that is still to be read, and one for the fault that ends them, if there is one.
-fn put_records(heap: Global, out: &mut Vec<u8>, mut reader: Reader<'_>) -> Result<(), AllocError>
+fn put_records(out: &mut Vec<u8>, mut reader: Reader<'_>) -> Result<(), AllocError>
     ensures { Appends out.old result (record_lines (length (standing reader.entry).job + 1) (standing reader.entry)) out.new }
 {
     loop {
         let index = reader.index();
         match reader.next_record() {
-            Ok(next) => match next {
-                Some(found) => put_record(heap, out, index, found)?,
-                None => return Ok(()),
-            },
-            Err(fault) => return put_fault(heap, out, fault),
+            Ok(Some(found)) => put_record(out, index, found)?,
+            Ok(None) => return Ok(()),
+            Err(fault) => return put_fault(out, fault),
         }
     }
 }
 
-// Adds the lines of a job.
-pub fn put_job(heap: Global, out: &mut Vec<u8>, bytes: &[u8]) -> Result<(), AllocError>
+// Adds the lines of a job; what it allocates on the way comes from the buffer's own allocator.
+pub fn put_job(_heap: Global, out: &mut Vec<u8>, bytes: &[u8]) -> Result<(), AllocError>
     ensures { Appends out.old result (job_lines bytes.now) out.new }
 {
     match Job::open(bytes) {
         Ok(opened) => {
             put_measure(out, opened.measure())?;
-            put_records(heap, out, opened.reader())
+            put_records(out, opened.reader())
         }
-        Err(fault) => put_fault(heap, out, fault),
+        Err(fault) => put_fault(out, fault),
     }
 }

@@ -5,11 +5,11 @@ use Rattle.listing.proofs.Turns.{Enough}
 use Rattle.listing.proofs.listed.put_records.Given as goal
 
 -- what is there and what is to come are all the lines
-abbrev pub invariant-loop-next : goal.invariant-loop-next
-invariant-loop-next l =
+abbrev pub invariant-loop-found : goal.invariant-loop-found
+invariant-loop-found l =
     (most : ℕ) × Enough most (standing l.reader)
     × (vec_items l.out ++ record_lines most (standing l.reader) ≡ vec_items l.initial.out ++ record_lines (length (standing l.initial.reader).job + 1) (standing l.initial.reader))
 
 -- what is left of the job
-abbrev pub decreases-loop-next : goal.decreases-loop-next
-decreases-loop-next l = length (standing l.reader).job - (standing l.reader).place
+abbrev pub decreases-loop-found : goal.decreases-loop-found
+decreases-loop-found l = length (standing l.reader).job - (standing l.reader).place
