@@ -2,16 +2,16 @@
 --
 -- name_of form               the first word of a line of this form
 -- behind_name form words     the words behind the first one, which is to be the form's name
--- Behind form line r         r is what stands in the line behind the form's name, or why that name is not there
+-- Behind form line r         r has the words of the line behind the form's name, or says why that name is not there
 -- kind_named word            the measure of this name
 -- only_kind words            the measure that the words name, of which there is to be one
 -- row_from, cell_from ns     the row and the cell of these numbers, in the order of the line
 -- measure_of, row_of, cell_of words    the measure, the row, the cell that a line gives, or why it gives none
 use Rattle.std.specs.Prelude.{◌≡◌, ℕ, cond, List, [], ◌∷◌, Ok, Err, codes, Result, MatchResult, slice_index}
-use Rattle.std.specs.Borrow.{Bor}
 use Rattle.std.specs.Str.{bytes_eq}
 use Rattle.row.specs.declared.Cell.{Cell}
 use Rattle.row.specs.declared.Row.{Row}
+use Rattle.setrow.specs.declared.parts.Words.{Words}
 use Rattle.setrow.specs.declared.task.Form.{Form}
 use Rattle.setrow.specs.declared.task.Form.TheVariants as form
 use Rattle.setrow.specs.declared.task.Kind.{Kind}
@@ -19,6 +19,7 @@ use Rattle.setrow.specs.declared.task.Kind.TheVariants.{Squared, Plain}
 use Rattle.setrow.specs.declared.task.Reason.{Reason}
 use Rattle.setrow.specs.declared.task.Reason.TheVariants.{Expected, TooFewWords, TooManyWords, NoSuchMeasure}
 use Rattle.setrow.specs.Numbers.{numbers_of}
+use Rattle.setrow.specs.Parts.{words_left}
 use Rattle.setrow.specs.Steps.{then}
 use Rattle.setrow.specs.Text.{words}
 
@@ -31,9 +32,9 @@ abbrev pub behind_name : Form → List (List ℕ) → Result (List (List ℕ)) R
 behind_name form [] = Err (Expected form)
 behind_name form (w ∷ ws) = cond (bytes_eq w (name_of form)) (Ok ws) (Err (Expected form))
 
-abbrev pub Behind : Form → List ℕ → Result (Bor (List ℕ)) Reason → Type 0
+abbrev pub Behind : Form → List ℕ → Result Words Reason → Type 0
 Behind form line r =
-    MatchResult r (λ rest. behind_name form (words line) ≡ Ok (words rest.now)) (λ why. behind_name form (words line) ≡ Err why)
+    MatchResult r (λ rest. behind_name form (words line) ≡ Ok (words_left rest)) (λ why. behind_name form (words line) ≡ Err why)
 
 abbrev pub kind_named : List ℕ → Result Kind Reason
 kind_named w = cond (bytes_eq w (codes "squared")) (Ok Squared) (cond (bytes_eq w (codes "plain")) (Ok Plain) (Err NoSuchMeasure))

@@ -1,8 +1,8 @@
-pub mod Cuts
 pub mod Forms
 pub mod Lines
 pub mod Messages
 pub mod Numbers
+pub mod Parts
 pub mod Reading
 pub mod Shown
 pub mod Steps

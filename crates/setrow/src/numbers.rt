@@ -1,55 +1,37 @@
 // How a word is read as a number, and the words of a line as numbers.
 ghost use Rattle.std.specs.Prelude.{◌≡◌};
-ghost use Rattle.std.specs.Str.{all_ascii_digits};
 ghost use Rattle.setrow.specs.Numbers.{number_of, numbers_of};
-ghost use Rattle.setrow.specs.Text.{words};
+ghost use Rattle.setrow.specs.Parts.{words_left};
 
-use crate::parts::first_word;
+use crate::parts::Words;
 use crate::task::{Form, Reason};
-
-// Whether each byte of a word is a decimal digit.
-fn all_digits(word: &[u8]) -> bool
-    ensures { result ≡ all_ascii_digits word.now }
-{
-    for byte in word {
-        if !byte.is_ascii_digit() {
-            return false;
-        }
-    }
-    true
-}
 
 // The number that a word writes, where it is one and fits.
 pub(crate) fn number(word: &[u8]) -> Result<u32, Reason>
     ensures { result ≡ number_of word.now }
 {
-    if !all_digits(word) {
+    if !word.iter().all(u8::is_ascii_digit) {
         return Err(Reason::NotNumber);
     }
-    let mut value = 0u64;
-    for digit in word {
-        value = 10 * value + (*digit - b'0') as u64;
-        if value > u32::MAX as u64 {
-            return Err(Reason::TooLarge);
-        }
-    }
-    Ok(value as u32)
+    word.iter()
+        .try_fold(0u32, |value, digit| {
+            value
+                .checked_mul(10)?
+                .checked_add(u32::from(digit.saturating_sub(b'0')))
+        })
+        .ok_or(Reason::TooLarge)
 }
 
-// The words of a line as numbers, of which there are to be `N`.
-pub(crate) fn numbers<const N: usize>(form: Form, line: &[u8]) -> Result<[u32; N], Reason>
-    ensures { result ≡ numbers_of form N (words line.now) }
+// The words as numbers, of which there are to be `N`.
+pub(crate) fn numbers<const N: usize>(form: Form, mut words: Words<'_>) -> Result<[u32; N], Reason>
+    ensures { result ≡ numbers_of form N (words_left words.entry) }
 {
     let mut values = [0; N];
-    let mut rest = line;
     for value in values.iter_mut() {
-        let Some(word) = first_word(rest) else {
-            return Err(Reason::TooFewWords(form));
-        };
-        *value = number(word.part)?;
-        rest = word.rest;
+        let word = words.next().ok_or(Reason::TooFewWords(form))?;
+        *value = number(word)?;
     }
-    match first_word(rest) {
+    match words.next() {
         None => Ok(values),
         Some(_) => Err(Reason::TooManyWords(form)),
     }

@@ -10,10 +10,7 @@ fn put_cell(text: &mut String, cell: Cell, site: u32) -> Result<(), AllocError>
     ensures { Adds (cell_line cell site) text.old text.new result }
 {
     let number = cell.number;
-    match writeln!(text, "{number} {site}") {
-        Ok(()) => Ok(()),
-        Err(_) => Err(AllocError),
-    }
+    writeln!(text, "{number} {site}")
 }
 
 // Adds a line for each cell.
@@ -39,7 +36,7 @@ pub fn report(
         Ok(cost) => {
             let mut text = String::new(heap);
             put_cells(&mut text, cells, sites)?;
-            text.push_str(format!(in heap; "cost {cost}\n")?.as_str())?;
+            writeln!(text, "cost {cost}")?;
             Ok(text)
         }
         Err(refusal) => {
