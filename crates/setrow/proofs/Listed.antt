@@ -6,7 +6,7 @@ use Rattle.setrow.specs.Forms.{cell_of}
 use Rattle.setrow.specs.Lines.{Counted}
 use Rattle.setrow.specs.Reading.{at_line, cells_of}
 use Rattle.setrow.specs.Steps.{then}
-use Rattle.setrow.proofs.Fields.{behind, behind_more}
+use Rattle.setrow.proofs.Numbered.{behind, behind_more}
 
 -- a cell more is read: a line less is to come
 pub cell_more : (cells cells' : List Cell) (cell : Cell) (l : Counted) (all rest : List Counted) (read : Result Cell Reason) → cells' ≡ cells ++ cell ∷ [] → all ≡ l ∷ rest → read ≡ cell_of l.words → Ok cell ≡ at_line l.number read → behind cells' (cells_of rest) ≡ behind cells (cells_of all)
