@@ -1,6 +1,5 @@
 -- Iterators that show what is left, and the first part that is not empty.
-use Rattle.std.proofs.Common.{◌≡◌, ◌<◌, ℕ, Bool, true, false, eqb, not, List, [], ◌∷◌, length, Some, None, Option, Bor, refl, ap, ◌∙◌, arith}
-use Rattle.std.proofs.lemmas.Bool.Decides.{nat_tests}
+use Rattle.std.proofs.Common.{◌≡◌, ℕ, Bool, true, false, cond, eqb, not, List, [], ◌∷◌, length, Some, None, Option, Bor, sym, ap, ◌∙◌, arith}
 use Rattle.std.specs.Fn.{CalledAt}
 use Rattle.std.specs.Iterator.{FindsItem, MakesProgress, Yields, YieldsFirstBy, YieldsFirstRef, item_count}
 use Rattle.std.specs.List.{FoldsTo}
@@ -15,26 +14,12 @@ pub nearer : {S A B : Type 0} (view : A → B) (rest : S → List B) (s : S) (r 
 nearer view rest s None t e = record { on = λ _. tt; keeps = tt; rests = λ _. tt }
 nearer view rest s (Some x) t e = record { on = λ _. (tt, tt, omega (arith, ap length e)); keeps = tt; rests = λ _. tt }
 
-passed : (part : List ℕ) (ps : List (List ℕ)) → length part ≡ 0 → filled (part ∷ ps) ≡ filled ps
-passed [] ps e = refl
-passed (b ∷ bs) ps e = absurd (omega (arith, e))
-
-kept : (part : List ℕ) (ps : List (List ℕ)) → 0 < length part → filled (part ∷ ps) ≡ part ∷ filled ps
-kept [] ps e = absurd (omega (arith, e))
-kept (b ∷ bs) ps e = refl
-
-empty_part : (n : ℕ) → false ≡ not (eqb n 0) → n ≡ 0
-empty_part n e = grind (arith, nat_tests)
-
-filled_part : (n : ℕ) → true ≡ not (eqb n 0) → 0 < n
-filled_part n e = grind (arith, nat_tests)
-
 module _ {F : Type 0} (g : Mut F (Bor (Bor (List ℕ)) × Unit {0}) Bool) (tells : (f : F) (x : Bor (List ℕ)) (b : Bool) (q : F) → CalledAt g f x b q → b ≡ not (eqb (length x.now) 0)) where
   all_passed : (xs : List (Bor (List ℕ))) (s t : Parts) (p q : F) → Yields (YieldsFirstRef parts_left) s xs t → FoldsTo (λ p x q. CalledAt g p x false q) p xs q → filled (parts_left s) ≡ filled (parts_left t)
   all_passed [] s t p q came calls = ap (λ ps. filled (parts_left ps)) came
   all_passed (x ∷ xs) s t p q came calls =
       ap filled came.1
-      ∙ passed x.now (parts_left came.0) (empty_part _ (tells p x false calls.0 calls.1))
+      ∙ ap (λ t. cond t (x.now ∷ filled (parts_left came.0)) (filled (parts_left came.0))) (sym (tells p x false calls.0 calls.1))
       ∙ all_passed xs came.0 t calls.0 q came.2 calls.2
 
   -- the first part that is not empty is the first of the filled ones
@@ -44,4 +29,6 @@ module _ {F : Type 0} (g : Mut F (Bor (Bor (List ℕ)) × Unit {0}) Bool) (tells
       (same ∙ ap filled found.2.2.0, ap filled found.2.2.1)
   first_filled s u f (Some x) found =
       let same = all_passed found.0 s found.2.0 f found.1 found.2.1 found.3 in
-      same ∙ ap filled found.2.2 ∙ kept x.now (parts_left u) (filled_part _ (tells found.1 x true found.4.0 found.4.1))
+      same
+      ∙ ap filled found.2.2
+      ∙ ap (λ t. cond t (x.now ∷ filled (parts_left u)) (filled (parts_left u))) (sym (tells found.1 x true found.4.0 found.4.1))

@@ -16,6 +16,7 @@ fn cut_at_mark<'a>(bytes: &'a [u8], marks: &[u8]) -> (&'a [u8], &'a [u8])
     }
 }
 
+// The library's `split` would not do: a struct cannot name its closure's type, and it gives an empty part after a last mark.
 // The parts of the bytes that are left, each of which ends with one of the marks.
 #[derive(Drop)]
 pub(crate) struct Parts<'a> {

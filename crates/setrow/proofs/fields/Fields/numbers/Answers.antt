@@ -1,4 +1,4 @@
-use Rattle.std.proofs.Common.{Err, ap, sym, ◌∙◌, arith}
+use Rattle.std.proofs.Common.{Err, ap, ◌∙◌, arith}
 use Rattle.std.proofs.lemmas.Result.{err_from_is_err_and}
 use Rattle.setrow.specs.declared.task.Reason.TheVariants.{TooFewWords}
 use Rattle.setrow.proofs.Numbered.{too_few, unread, one_more}

@@ -1,4 +1,4 @@
-use Rattle.std.proofs.Common.{◌≡◌, ◌<◌, ◌∷◌, Some, length, arith, ap, ◌∙◌, false-eqb}
+use Rattle.std.proofs.Common.{◌≡◌, ◌<◌, ◌∷◌, Some, length, arith, false-eqb}
 use Rattle.setrow.specs.Text.{parts}
 use Rattle.setrow.specs.Parts.{parts_left}
 use Rattle.setrow.proofs.Parted.{first_cut}
