@@ -1,5 +1,4 @@
 pub mod Digits
-pub mod Listed
 pub mod Numbered
 pub mod Parted
 pub mod Printed
