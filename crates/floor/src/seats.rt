@@ -31,14 +31,6 @@ impl Ranked for Seat {
     ghost chain = { Prim.search rules };
 
     fn is_ahead(&self, other: &Seat) -> bool {
-        let own = self.cell;
-        let others = other.cell;
-        (self.row.line, self.row.left, own.wanted.site, own.number)
-            < (
-                other.row.line,
-                other.row.left,
-                others.wanted.site,
-                others.number,
-            )
+        self.rank() < other.rank()
     }
 }

@@ -18,6 +18,14 @@ impl Seat {
     {
         Seat { cell, row, site: 0 }
     }
+
+    // What a seat is ranked by: its row's line and left, then its cell's wanted site and number.
+    pub(crate) fn rank(&self) -> (u32, u32, u32, u32)
+        ensures { result ≡ (self.now.row.line, self.now.row.left, self.now.cell.wanted.site, self.now.cell.number) }
+    {
+        let Seat { cell, row, site: _ } = self;
+        (row.line, row.left, cell.wanted.site, cell.number)
+    }
 }
 
 impl Seats {
