@@ -1,16 +1,14 @@
--- One turn of a loop that looks for one that passes.
-use Rattle.std.proofs.Common.{◌≡◌, ℕ, ◌+◌, ◌<◌, ◌≤◌, Bool, true, false, ◌||◌, List, length, get_or, drop, sym, ap, ◌∙◌}
-use Rattle.std.proofs.lemmas.List.{at_drop_more, at_drop_all}
+-- A search by a test, as the library has it, is the definition of specs/.
+use Rattle.std.proofs.Common.{◌≡◌, ℕ, Bool, ◌||◌, cond, eqb, List, [], ◌∷◌, Some, refl, ap}
+use Rattle.std.specs.List.{list_any, find}
+use Rattle.floor.specs.Calls.{seat_of}
 use Rattle.floor.specs.Refusals.{any}
+use Rattle.floor.specs.declared.Seat.{Seat}
 
-module _ {X : Type 0} (test : X → Bool) (xs : List X) (i : ℕ) (d : X) where
-  -- the one at i passes
-  pub any_found : i < length xs → test (get_or xs i d) ≡ true → any test (drop i xs) ≡ true
-  any_found within passes = at_drop_more (any test) xs i d within ∙ ap (λ b. b || any test (drop (i + 1) xs)) passes
+pub any_is : {X : Type 0} (test : X → Bool) (xs : List X) → list_any test xs ≡ any test xs
+any_is test [] = refl
+any_is test (x ∷ xs) = ap (λ b. test x || b) (any_is test xs)
 
-  -- it fails, so one of those after it is to pass
-  pub any_more : i < length xs → test (get_or xs i d) ≡ false → any test (drop (i + 1) xs) ≡ any test (drop i xs)
-  any_more within fails = sym (at_drop_more (any test) xs i d within ∙ ap (λ b. b || any test (drop (i + 1) xs)) fails)
-
-  pub any_none : length xs ≤ i → any test (drop i xs) ≡ false
-  any_none past = at_drop_all (any test) xs i past
+pub seat_of_is : (number : ℕ) (seats : List Seat) → find (λ s. eqb s.cell.number number) seats ≡ seat_of number seats
+seat_of_is number [] = refl
+seat_of_is number (s ∷ seats) = ap (λ o. cond (eqb s.cell.number number) (Some s) o) (seat_of_is number seats)

@@ -3,7 +3,7 @@ use Rattle.std.proofs.Common.{◌≡◌, ℕ, ◌+◌, ◌-◌, ◌<◌, ◌≤�
 use Rattle.std.proofs.lemmas.List.Edits.{length-insert}
 use Rattle.std.proofs.ByRecursion.{All-weaker}
 use Rattle.std.proofs.lemmas.List.Sums.{prefix_len-le-length}
-use Rattle.std.proofs.lemmas.Bool.{and_from, and_cases, or_parts, or_left, or_right, leb-true, ltb-true, both_ways, cases_Bool}
+use Rattle.std.proofs.lemmas.Bool.{and_from, and_cases, not-true, or_parts, or_left, or_right, leb-true, ltb-true, both_ways, cases_Bool}
 use Rattle.std.specs.Option.{option_map}
 use Rattle.std.specs.List.{AllByRecursion}
 use Rattle.measure.specs.Costs.{Fair}
@@ -13,14 +13,14 @@ use Rattle.row.specs.declared.Cell.{Cell}
 use Rattle.row.specs.declared.Row.{Row}
 use Rattle.row.proofs.Accepted.{both, unmapped}
 use Rattle.row.proofs.Ranges.{passed, ranged_row}
-use Rattle.table.specs.Order.{rank_of}
-use Rattle.table.proofs.Inserted.{Pairs, put_in, put_all, put_ordered, put_pairs, inserted_is}
+use Rattle.table.specs.Order.{Ordered, rank_of}
+use Rattle.table.proofs.Inserted.{Pairs, put_all, put_ordered, put_pairs, inserted_is}
 use Rattle.floor.specs.Calls.{seated}
 use Rattle.floor.specs.Formed.{formed}
-use Rattle.floor.specs.Refusals.{any, stands, has_sites, place_refusal}
+use Rattle.floor.specs.Refusals.{stands, has_sites, cell_refusal}
 use Rattle.floor.specs.Rows.{same_row}
-use Rattle.floor.specs.Seats.{on_row, seat_ahead, seats_on, cells_on, new_seat, joined}
-use Rattle.floor.specs.declared.Refusal.TheVariants.{OutOfRange, NumberStands, CellsFull, NoRoom}
+use Rattle.floor.specs.Seats.{on_row, seat_ahead, seats_on, cells_on, new_seat, joined, Sited as Placed}
+use Rattle.floor.specs.declared.Refusal.TheVariants.{OutOfRange, NumberStands, CellsFull}
 use Rattle.floor.specs.declared.Seat.{Seat}
 use Rattle.floor.proofs.Kept.{all_with, kept_parts, kept_more, kept_same}
 use Rattle.floor.proofs.Listed.{Standing, standing_passes, Differ, Listed, Inside, After, Sited, formed_listed, formed_sited}
@@ -53,19 +53,23 @@ differ_turn s t e = grind arith
 -- what is known where placing refuses nothing
 pub record Placeable (seats : List Seat) (cell : Cell) : Type 0 where
   pub passes : Passes cell
-  pub fresh : AllByRecursion (λ s. eqb s.cell.number cell.number ≡ false) seats
+  pub fresh : stands cell.number seats ≡ false
   pub few : length seats < 1024
 
-pub placeable : (rows : List Row) (seats : List Seat) (cell : Cell) → place_refusal rows seats cell ≡ None → Placeable seats cell
-placeable rows seats cell none =
-    let ranges = both (option_map OutOfRange (cell_fault cell)) (check (not (stands cell.number seats)) NumberStands (check (ltb (length seats) 1024) CellsFull (check (any (has_sites seats cell) rows) NoRoom None))) none in
-    let number = passed (not (stands cell.number seats)) NumberStands (check (ltb (length seats) 1024) CellsFull (check (any (has_sites seats cell) rows) NoRoom None)) ranges.1 in
-    let full = passed (ltb (length seats) 1024) CellsFull (check (any (has_sites seats cell) rows) NoRoom None) number.1 in
+pub placeable : (seats : List Seat) (cell : Cell) → cell_refusal seats cell ≡ None → Placeable seats cell
+placeable seats cell none =
+    let ranges = both (option_map OutOfRange (cell_fault cell)) (check (not (stands cell.number seats)) NumberStands (check (ltb (length seats) 1024) CellsFull None)) none in
+    let number = passed (not (stands cell.number seats)) NumberStands (check (ltb (length seats) 1024) CellsFull None) ranges.1 in
+    let full = passed (ltb (length seats) 1024) CellsFull None number.1 in
     record {
       passes = unmapped OutOfRange (cell_fault cell) ranges.0;
-      fresh = none_any (λ s. eqb s.cell.number cell.number) seats number.0;
+      fresh = not-true (stands cell.number seats) number.0;
       few = ltb-true (length seats) 1024 full.0;
     }
+
+-- no seat has the number of a cell that can be placed
+fresh_each : (seats : List Seat) (cell : Cell) → stands cell.number seats ≡ false → AllByRecursion (λ s. eqb s.cell.number cell.number ≡ false) seats
+fresh_each seats cell fresh = none_any (λ s. eqb s.cell.number cell.number) seats (ap not fresh)
 
 -- the widths of two lots of seats
 widths-append : (ss ts : List Seat) → widths (map (λ s. s.cell) (ss ++ ts)) ≡ widths (map (λ s. s.cell) ss) + widths (map (λ s. s.cell) ts)
@@ -104,18 +108,31 @@ module _ (row : Row) (cell : Cell) (seats : List Seat) where
   pub joined_others : (r : Row) → same_row r row ≡ false → seats_on r (joined row cell seats) ≡ seats_on r seats
   joined_others r other = kept_same (on_row r) place (new_seat row cell) seats (turned r row other)
 
+  -- the seats stay in their order
+  pub joined_ordered : Ordered seat_ahead seats → stands cell.number seats ≡ false → Ordered seat_ahead (joined row cell seats)
+  joined_ordered ordered fresh =
+      let k : Seat = new_seat row cell in
+      subst (Ordered seat_ahead) (sym (inserted_is seat_ahead k seats))
+      (put_ordered seat_ahead k seat_chain seats (All-weaker (λ s. eqb s.cell.number cell.number ≡ false) (λ s. seat_ahead s k ≡ false → seat_ahead k s ≡ true) (λ s. seat_total s k) seats (fresh_each seats cell fresh)) ordered)
+
+  -- and at places
+  pub joined_sited : AllByRecursion Placed seats → Passes cell → AllByRecursion Placed (joined row cell seats)
+  joined_sited sited passes =
+      let k : Seat = new_seat row cell in
+      subst (AllByRecursion Placed) (sym (inserted_is seat_ahead k seats)) (put_all seat_ahead k Placed seats (passes, omega arith) sited)
+
   -- what `formed` says whatever the sites stays
   pub joined_listed : (rows : List Row) → Listed rows seats → Standing rows row → Placeable seats cell → Listed rows (joined row cell seats)
   joined_listed rows listed standing can =
       let k : Seat = new_seat row cell in
-      let put : Listed rows (put_in seat_ahead k seats) = record {
+      let put = inserted_is seat_ahead k seats in
+      record {
         well = listed.well;
-        pass = put_all seat_ahead k (λ s. Passes s.cell) seats can.passes listed.pass;
-        stand = put_all seat_ahead k (λ s. Standing rows s.row) seats standing listed.stand;
-        order = put_ordered seat_ahead k seat_chain seats (All-weaker (λ s. eqb s.cell.number cell.number ≡ false) (λ s. seat_ahead s k ≡ false → seat_ahead k s ≡ true) (λ s. seat_total s k) seats can.fresh) listed.order;
-        differ = put_pairs seat_ahead k Differ differ_turn seats (All-weaker (λ s. eqb s.cell.number cell.number ≡ false) (Differ k) (λ s. differ_turn s k) seats can.fresh) listed.differ;
-      } in
-      subst (Listed rows) (sym (inserted_is seat_ahead k seats)) put
+        pass = subst (AllByRecursion (λ s. Passes s.cell)) (sym put) (put_all seat_ahead k (λ s. Passes s.cell) seats can.passes listed.pass);
+        stand = subst (AllByRecursion (λ s. Standing rows s.row)) (sym put) (put_all seat_ahead k (λ s. Standing rows s.row) seats standing listed.stand);
+        order = joined_ordered listed.order can.fresh;
+        differ = subst (Pairs Differ) (sym put) (put_pairs seat_ahead k Differ differ_turn seats (All-weaker (λ s. eqb s.cell.number cell.number ≡ false) (Differ k) (λ s. differ_turn s k) seats (fresh_each seats cell can.fresh)) listed.differ);
+      }
 
   -- `set` accepts the row's cells with the new one
   pub joined_ready : (rows : List Row) → Listed rows seats → Standing rows row → Placeable seats cell → has_sites seats cell row ≡ true → Ready row (cells_on row (joined row cell seats))
@@ -127,10 +144,9 @@ module _ (row : Row) (cell : Cell) (seats : List Seat) where
       row_accepts rows row (joined row cell seats) (joined_listed rows listed standing can) standing (omega arith) (omega arith)
 
 -- a floor is well formed once a cell has joined a row that has sites for it
-pub seated_formed : (price : ℕ → ℕ → ℕ → ℕ) → Fair price → (rows : List Row) (seats : List Seat) (cell : Cell) (row : Row) → formed rows seats ≡ true → place_refusal rows seats cell ≡ None → Standing rows row → has_sites seats cell row ≡ true → formed rows (seated price seats cell row) ≡ true
-seated_formed price fair rows seats cell row well none standing sites =
+pub seated_formed : (price : ℕ → ℕ → ℕ → ℕ) → Fair price → (rows : List Row) (seats : List Seat) (cell : Cell) (row : Row) → formed rows seats ≡ true → Placeable seats cell → Standing rows row → has_sites seats cell row ≡ true → formed rows (seated price seats cell row) ≡ true
+seated_formed price fair rows seats cell row well can standing sites =
     let listed = formed_listed rows seats well in
-    let can = placeable rows seats cell none in
     settled_formed price fair row (joined row cell seats) (joined_ready row cell seats rows listed standing can sites) rows (joined_listed row cell seats rows listed standing can) standing
     (λ r other. subst Sited (sym (joined_others row cell seats r other)) (formed_sited rows seats well r))
 

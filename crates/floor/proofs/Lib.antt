@@ -2,11 +2,11 @@ pub mod Anys
 pub mod Chosen
 pub mod Costs
 pub mod Defaults
-pub mod Gathered
 pub mod Granted
 pub mod Joining
 pub mod Kept
 pub mod Known
+pub mod Leasts
 pub mod Listed
 pub mod Moved
 pub mod Orders
@@ -16,6 +16,6 @@ pub mod Resited
 pub mod Rising
 pub mod Rowed
 pub mod Settling
-pub mod Sited
 pub mod Stretch
 pub mod Tests
+pub mod Widths

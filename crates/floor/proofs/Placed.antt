@@ -1,24 +1,28 @@
 -- What is known once a row is chosen for a cell.
-use Rattle.std.proofs.Common.{◌≡◌, ℕ, ◌≤◌, Bool, true, false, cond, leb, List, [], ◌∷◌, length, Some, None, Option, sym, refl, ap, ◌∙◌, subst, arith}
-use Rattle.std.proofs.lemmas.Bool.{or_left, or_right}
-use Rattle.std.specs.Option.{option_map}
-use Rattle.std.specs.List.{AllByRecursion}
+use Rattle.std.proofs.Common.{◌≡◌, ℕ, Bool, true, false, cond, not, ◌||◌, eqb, leb, ltb, List, [], ◌∷◌, map, length, Some, None, Ok, Option, IsSome, sym, refl, ap, ◌∙◌, subst, arith}
+use Rattle.std.proofs.lemmas.Bool.{or_left, or_right, cond_both, cond-true, cond-false, eq-eqb, both_ways}
+use Rattle.std.specs.Option.{option_map, unwrap_or, ok_or}
 use Rattle.measure.specs.Costs.{Fair}
+use Rattle.row.specs.Records.{check, then, cell_fault}
+use Rattle.row.specs.Sites.{row_sites}
 use Rattle.row.specs.Stack.{Ready}
+use Rattle.row.specs.Task.{changed}
 use Rattle.row.specs.declared.Cell.{Cell}
 use Rattle.row.specs.declared.Row.{Row}
-use Rattle.table.specs.Order.{Ordered}
-use Rattle.table.proofs.Inserted.{put_all, inserted_is}
-use Rattle.floor.specs.Calls.{better, chosen, rise, seated}
+use Rattle.table.proofs.Inserted.{put_in, inserted_is}
+use Rattle.floor.specs.Calls.{better, chosen, rise, seated, seat_of, site_then, refused_or, placed_on, place_answer, seated_on, seats_after_place}
 use Rattle.floor.specs.Choices.{choice_of}
 use Rattle.floor.specs.Formed.{formed}
-use Rattle.floor.specs.Refusals.{any, has_sites, place_refusal}
-use Rattle.floor.specs.Seats.{Sited, seat_ahead, cells_on, new_seat, joined}
+use Rattle.floor.specs.Refusals.{any, has_sites, stands, cell_refusal, place_refusal}
+use Rattle.floor.specs.Seats.{seat_ahead, cells_on, site_of, new_seat, joined, resited}
+use Rattle.floor.specs.declared.Refusal.{Refusal}
+use Rattle.floor.specs.declared.Refusal.TheVariants.{OutOfRange, NumberStands, CellsFull, NoRoom}
 use Rattle.floor.specs.declared.Seat.{Seat}
 use Rattle.floor.specs.declared.choice.Choice.{Choice}
-use Rattle.floor.proofs.Joining.{joined_listed, joined_length, seated_formed}
-use Rattle.floor.proofs.Listed.{is_row, Standing, formed_listed}
-use Rattle.floor.proofs.Ready.{sited_seats, able, ready_standing}
+use Rattle.floor.proofs.Joining.{placeable, seated_formed}
+use Rattle.floor.proofs.Listed.{is_row, Standing}
+use Rattle.floor.proofs.Ready.{ready_standing}
+use Rattle.floor.proofs.Resited.{resited_cells}
 
 -- what is chosen is a standing row that has sites
 pub record Good (rows : List Row) (seats : List Seat) (cell : Cell) (row : Row) : Type 0 where
@@ -51,33 +55,93 @@ pub chosen_good : (f : ℕ → ℕ → ℕ → ℕ) (rows : List Row) (seats : L
 chosen_good f [] seats cell row e = let never : ◌≡◌ {A = ℕ} 0 1 = cc in absurd (omega arith)
 chosen_good f (first ∷ rows) seats cell row e = by_sites f first rows seats cell row (has_sites seats cell first) refl (λ r. chosen_good f rows seats cell r) e
 
-module _ {f : ℕ → ℕ → ℕ → ℕ} (fair : Fair f) (rows : List Row) (seats : List Seat) (well : formed rows seats ≡ true) (cell : Cell) (none : place_refusal rows seats cell ≡ None) (row : Row) (is : chosen f seats cell rows ≡ Some row) where
-  good : Good rows seats cell row
-  good = chosen_good f rows seats cell row is
+-- a row that is chosen has sites
+any_by : (seats : List Seat) (cell : Cell) (first : Row) (rows : List Row) (t : Bool) → has_sites seats cell first ≡ t → (t ≡ false → any (has_sites seats cell) rows ≡ true) → any (has_sites seats cell) (first ∷ rows) ≡ true
+any_by seats cell first rows true fits rest = or_left (has_sites seats cell first) (any (has_sites seats cell) rows) fits
+any_by seats cell first rows false fits rest = or_right (has_sites seats cell first) (any (has_sites seats cell) rows) (rest refl)
 
-  pub then_ordered : Ordered seat_ahead (joined row cell seats)
-  then_ordered = (joined_listed row cell seats rows (formed_listed rows seats well) good.stands (able rows seats well cell none)).order
+pub chosen_any : (f : ℕ → ℕ → ℕ → ℕ) (rows : List Row) (seats : List Seat) (cell : Cell) (row : Row) → chosen f seats cell rows ≡ Some row → any (has_sites seats cell) rows ≡ true
+chosen_any f [] seats cell row e = let never : ◌≡◌ {A = ℕ} 0 1 = cc in absurd (omega arith)
+chosen_any f (first ∷ rows) seats cell row e =
+    any_by seats cell first rows (has_sites seats cell first) refl
+    (λ no. chosen_any f rows seats cell row (sym (cond-false (has_sites seats cell first) (better (rise f seats cell) first (chosen f seats cell rows)) (chosen f seats cell rows) no) ∙ e))
 
-  pub then_sited : AllByRecursion Sited (joined row cell seats)
-  then_sited =
-      subst (AllByRecursion Sited) (sym (inserted_is seat_ahead (new_seat row cell) seats))
-      (put_all seat_ahead (new_seat row cell) Sited seats ((able rows seats well cell none).passes, omega arith) (sited_seats rows seats well))
+-- so the check of the rows refuses nothing where the others refuse nothing
+not_refused : (rows : List Row) (seats : List Seat) (cell : Cell) → cell_refusal seats cell ≡ None → any (has_sites seats cell) rows ≡ true → place_refusal rows seats cell ≡ None
+not_refused rows seats cell none sites = refuses (option_map OutOfRange (cell_fault cell)) (not (stands cell.number seats)) (ltb (length seats) 1024) (any (has_sites seats cell) rows) none sites
+  where
+    refuses : (fault : Option Refusal) (fresh few some : Bool) → then fault (check fresh NumberStands (check few CellsFull None)) ≡ None → some ≡ true → then fault (check fresh NumberStands (check few CellsFull (check some NoRoom None))) ≡ None
+    refuses (Some refusal) fresh few some e sites = e
+    refuses None false few some e sites = e
+    refuses None true false some e sites = e
+    refuses None true true some e sites = cond-true some None (Some NoRoom) sites
 
-  pub then_few : length (joined row cell seats) ≤ 1024
-  then_few = let few = (able rows seats well cell none).few in let long = joined_length row cell seats in omega arith
+-- a seat that has joined is found by its number
+any_new : {X : Type 0} (ahead : X → X → Bool) (k : X) (test : X → Bool) (xs : List X) → test k ≡ true → any test (put_in ahead k xs) ≡ true
+any_new ahead k test [] own = or_left (test k) false own
+any_new ahead k test (x ∷ xs) own =
+    cond_both (ahead x k) (x ∷ put_in ahead k xs) (k ∷ x ∷ xs) (λ l. any test l ≡ true) (λ yes. or_right (test x) (any test (put_in ahead k xs)) (any_new ahead k test xs own)) (λ no. or_left (test k) (any test (x ∷ xs)) own)
 
-  pub then_ready : Ready row (cells_on row (joined row cell seats))
-  then_ready = ready_standing rows seats well cell none row good.stands good.fits
+any_cells : (test : Cell → Bool) (seats : List Seat) → any (λ s. test s.cell) seats ≡ any test (map (λ s. s.cell) seats)
+any_cells test [] = refl
+any_cells test (s ∷ seats) = ap (λ b. test s.cell || b) (any_cells test seats)
 
-  pub then_formed : formed rows (seated f seats cell row) ≡ true
-  then_formed = seated_formed f fair rows seats cell row well none good.stands good.fits
+stands_found : (number : ℕ) (seats : List Seat) → stands number seats ≡ true → IsSome (seat_of number seats)
+stands_found number [] e = absurd (both_ways false refl e)
+stands_found number (s ∷ seats) e = by_test (eqb s.cell.number number) e (stands_found number seats)
+  where
+    by_test : (t : Bool) → t || stands number seats ≡ true → (stands number seats ≡ true → IsSome (seat_of number seats)) → IsSome (cond t (Some s) (seat_of number seats))
+    by_test true e rest = refl
+    by_test false e rest = rest e
 
--- the row of a choice is the row that is chosen
-pub choice_row : (f : ℕ → ℕ → ℕ → ℕ) (rows : List Row) (seats : List Seat) (cell : Cell) (choice : Choice) (o : Option Row) → Some choice ≡ option_map (choice_of f seats cell) o → o ≡ Some choice.row
-choice_row f rows seats cell choice None e = let never : ◌≡◌ {A = ℕ} 0 1 = cc in absurd (omega arith)
-choice_row f rows seats cell choice (Some row) e = let same : choice ≡ choice_of f seats cell row = cc in ap (λ c. Some c.row) (sym same)
+pub seated_found : (f : ℕ → ℕ → ℕ → ℕ) (seats : List Seat) (cell : Cell) (row : Row) → IsSome (seat_of cell.number (seated f seats cell row))
+seated_found f seats cell row =
+    let all : List Seat = joined row cell seats in
+    let sites = row_sites f row (cells_on row all) in
+    let test : Cell → Bool = λ c. eqb c.number cell.number in
+    let own : any (λ s. test s.cell) all ≡ true = ap (any (λ s. test s.cell)) (inserted_is seat_ahead (new_seat row cell) seats) ∙ any_new seat_ahead (new_seat row cell) (λ s. test s.cell) seats (eq-eqb cell.number cell.number refl) in
+    stands_found cell.number (resited row sites all)
+    (any_cells test (resited row sites all) ∙ ap (any test) (resited_cells row sites all) ∙ sym (any_cells test all) ∙ own)
 
--- the same from what `choose` answered over slices of the tables
-pub row_chosen : (f : ℕ → ℕ → ℕ → ℕ) (rows : List Row) (seats : List Seat) (row_slice : List Row) (seat_slice : List Seat) (cell : Cell) (choice : Choice) → row_slice ≡ rows → seat_slice ≡ seats → Some choice ≡ option_map (choice_of f seat_slice cell) (chosen f seat_slice cell row_slice) → chosen f seats cell rows ≡ Some choice.row
-row_chosen f rows seats row_slice seat_slice cell choice same_rows same_seats e =
-    choice_row f rows seats cell choice (chosen f seats cell rows) (e ∙ (λ i. option_map (choice_of f (same_seats i) cell) (chosen f (same_seats i) cell (same_rows i))))
+-- what is known once a row is chosen for a cell that no other check refuses
+pub record Chose (f : ℕ → ℕ → ℕ → ℕ) (rows : List Row) (seats : List Seat) (cell : Cell) (choice : Choice) : Type 0 where
+  pub is : chosen f seats cell rows ≡ Some choice.row
+  pub rises : choice.rise ≡ rise f seats cell choice.row
+  pub granted : place_refusal rows seats cell ≡ None
+  pub ready : Ready choice.row (cells_on choice.row (joined choice.row cell seats))
+  pub well : formed rows (seated f seats cell choice.row) ≡ true
+
+choice_is : (f : ℕ → ℕ → ℕ → ℕ) (seats : List Seat) (cell : Cell) (choice : Choice) (row : Row) → Ok choice ≡ ok_or {E = Refusal} (Some (choice_of f seats cell row)) NoRoom → choice ≡ choice_of f seats cell row
+choice_is f seats cell choice row e = cc
+
+pub chose : {f : ℕ → ℕ → ℕ → ℕ} (fair : Fair f) (rows : List Row) (seats : List Seat) (cell : Cell) (choice : Choice) → formed rows seats ≡ true → cell_refusal seats cell ≡ None → Ok choice ≡ ok_or (option_map (choice_of f seats cell) (chosen f seats cell rows)) NoRoom → Chose f rows seats cell choice
+chose {f} fair rows seats cell choice well none told = by_row (chosen f seats cell rows) refl told
+  where
+    by_row : (o : Option Row) → chosen f seats cell rows ≡ o → Ok choice ≡ ok_or (option_map (choice_of f seats cell) o) NoRoom → Chose f rows seats cell choice
+    by_row None is e = let never : ◌≡◌ {A = ℕ} 0 1 = cc in absurd (omega arith)
+    by_row (Some row) is e =
+        let same = choice_is f seats cell choice row e in
+        let row_is : choice.row ≡ row = ap (λ c. c.row) same in
+        let chosen_is : chosen f seats cell rows ≡ Some choice.row = is ∙ ap Some (sym row_is) in
+        let good = chosen_good f rows seats cell choice.row chosen_is in
+        let can = placeable seats cell none in
+        record {
+          is = chosen_is;
+          rises = ap (λ c. c.rise) same ∙ ap (rise f seats cell) (sym row_is);
+          granted = not_refused rows seats cell none (chosen_any f rows seats cell choice.row chosen_is);
+          ready = ready_standing rows seats well cell can choice.row good.stands good.fits;
+          well = seated_formed f fair rows seats cell choice.row well can good.stands good.fits;
+        }
+
+-- what placing answers then, and the seats
+pub answers : {f : ℕ → ℕ → ℕ → ℕ} (rows : List Row) (seats after : List Seat) (cell : Cell) (choice : Choice) (seat : Seat) → Chose f rows seats cell choice → after ≡ seated f seats cell choice.row → seat_of cell.number after ≡ Some seat →
+    Ok (record { spot = record { line = choice.row.line; site = seat.site }; rise = choice.rise }) ≡ place_answer f rows seats cell
+answers {f} rows seats after cell choice seat known same found =
+    let site : seat.site ≡ site_then cell.number (seated f seats cell choice.row) =
+    sym (ap (λ o. unwrap_or (option_map site_of o) 0) found) ∙ ap (λ l. unwrap_or (option_map site_of (seat_of cell.number l)) 0) same in
+    (λ i. Ok (record { spot = record { line = choice.row.line; site = site i }; rise = known.rises i }))
+    ∙ sym (ap (λ o. refused_or o (placed_on f seats cell (chosen f seats cell rows))) known.granted ∙ ap (placed_on f seats cell) known.is)
+
+pub seats_then : {f : ℕ → ℕ → ℕ → ℕ} (rows : List Row) (seats : List Seat) (cell : Cell) (choice : Choice) → Chose f rows seats cell choice → seated f seats cell choice.row ≡ seats_after_place f rows seats cell
+seats_then {f} rows seats cell choice known =
+    sym (ap (λ o. changed o (seated_on f seats cell (chosen f seats cell rows)) seats) known.granted ∙ ap (seated_on f seats cell) known.is)

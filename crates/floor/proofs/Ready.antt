@@ -1,5 +1,5 @@
 -- What a floor that keeps its facts gives the functions that look at its rows.
-use Rattle.std.proofs.Common.{◌≡◌, ℕ, ◌<◌, true, List, length, get_or, None, arith}
+use Rattle.std.proofs.Common.{◌≡◌, ℕ, ◌<◌, ◌≤◌, true, not, List, length, get_or, is_some, arith}
 use Rattle.std.proofs.ByRecursion.{All-weaker}
 use Rattle.std.specs.List.{AllByRecursion}
 use Rattle.row.specs.Stack.{Ready}
@@ -8,12 +8,13 @@ use Rattle.row.specs.declared.Row.{Row}
 use Rattle.row.proofs.Ranges.{RangedRow, ranged_row}
 use Rattle.table.specs.Order.{Ordered}
 use Rattle.floor.specs.Formed.{formed}
-use Rattle.floor.specs.Refusals.{has_sites, place_refusal}
+use Rattle.floor.specs.Refusals.{has_sites, cell_refusal}
 use Rattle.floor.specs.Seats.{Sited, seat_ahead, cells_on, joined}
 use Rattle.floor.specs.declared.Seat.{Seat}
 use Rattle.floor.proofs.Defaults.{no_row}
 use Rattle.floor.proofs.Joining.{Placeable, placeable, joined_ready}
 use Rattle.floor.proofs.Known.{SeatKnown, all_known}
+use Rattle.floor.proofs.Tests.{none_found}
 use Rattle.floor.proofs.Listed.{Standing, formed_listed, standing_at, standing_passes}
 
 module _ (rows : List Row) (seats : List Seat) (well : formed rows seats ≡ true) where
@@ -33,9 +34,15 @@ module _ (rows : List Row) (seats : List Seat) (well : formed rows seats ≡ tru
   pub ranged_at : (i : ℕ) → i < length rows → RangedRow (get_or rows i no_row)
   ranged_at i within = ranged_standing (get_or rows i no_row) (standing_at rows i no_row within)
 
-  module _ (cell : Cell) (none : place_refusal rows seats cell ≡ None) where
-    pub able : Placeable seats cell
-    able = placeable rows seats cell none
+  pub ready_standing : (cell : Cell) → Placeable seats cell → (row : Row) → Standing rows row → has_sites seats cell row ≡ true → Ready row (cells_on row (joined row cell seats))
+  ready_standing cell can row stands fits = joined_ready row cell seats rows (formed_listed rows seats well) stands can fits
 
-    pub ready_standing : (row : Row) → Standing rows row → has_sites seats cell row ≡ true → Ready row (cells_on row (joined row cell seats))
-    ready_standing row stands fits = joined_ready row cell seats rows (formed_listed rows seats well) stands able fits
+-- a cell that is offered can be placed where a row has sites for it
+pub offered : (seats : List Seat) (cell : Cell) → not (is_some (cell_refusal seats cell)) ≡ true → Placeable seats cell
+offered seats cell free = placeable seats cell (none_found (cell_refusal seats cell) free)
+
+-- a standing row has its ranges, and `set` accepts its cells with one that is offered where it has sites for it
+pub offer_ready : (rows : List Row) (seats : List Seat) (cell : Cell) → formed rows seats ≡ true → not (is_some (cell_refusal seats cell)) ≡ true → (row : Row) → Standing rows row → (row.left ≤ row.right) × (has_sites seats cell row ≡ true → Ready row (cells_on row (joined row cell seats)))
+offer_ready rows seats cell well free row stands =
+    let known = ranged_standing rows seats well row stands in
+    (omega (arith, known.some), ready_standing rows seats well cell (offered seats cell free) row stands)

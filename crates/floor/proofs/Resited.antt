@@ -7,18 +7,15 @@ use Rattle.std.specs.List.{AllByRecursion}
 use Rattle.row.specs.Settings.{Placed, placed, EveryPair, Within}
 use Rattle.row.specs.Stack.{Passes}
 use Rattle.row.specs.declared.Row.{Row}
+use Rattle.table.specs.Order.{Ordered}
 use Rattle.table.proofs.Inserted.{Pairs}
 use Rattle.floor.specs.Formed.{formed}
 use Rattle.floor.specs.Rows.{same_row}
-use Rattle.floor.specs.Seats.{on_row, seat_ahead, seats_on, cells_on, sites_on, resited}
+use Rattle.floor.specs.Seats.{on_row, seat_ahead, seats_on, cells_on, sites_on, moved, resited, Sited as OfTable}
 use Rattle.floor.specs.declared.Seat.{Seat}
 use Rattle.floor.proofs.Kept.{kept_yes, kept_no, passing_kept}
 use Rattle.floor.proofs.Listed.{Standing, standing_one, Differ, Listed, Inside, After, Sited, listed_formed, seats_on_same}
 use Rattle.floor.proofs.Tests.{pairs_ordered, ordered_pairs}
-
--- a seat at another site
-abbrev pub moved : Seat → ℕ → Seat
-moved s x = record { cell = s.cell; row = s.row; site = x }
 
 module _ (row : Row) where
   -- what is told of a seat by its cell and its row stays, seat by seat
@@ -38,6 +35,14 @@ module _ (row : Row) where
       (λ yes. (keep s x h.0, resited_all P keep xs seats h.1))
       (λ no. (h.0, resited_all P keep (x ∷ xs) seats h.1))
 
+  pub resited_sited : (xs : List ℕ) (seats : List Seat) → AllByRecursion (λ x. x ≤ 65535) xs → AllByRecursion OfTable seats → AllByRecursion OfTable (resited row xs seats)
+  resited_sited xs [] places h = tt
+  resited_sited [] (s ∷ seats) places h = h
+  resited_sited (x ∷ xs) (s ∷ seats) places h =
+      cond_both (on_row row s) (moved s x ∷ resited row xs seats) (s ∷ resited row (x ∷ xs) seats) (AllByRecursion OfTable)
+      (λ yes. ((h.0.0, places.0), resited_sited xs seats places.1 h.1))
+      (λ no. (h.0, resited_sited (x ∷ xs) seats places h.1))
+
   pub resited_pairs : (R : Seat → Seat → Type 0) → ((s t : Seat) (x : ℕ) → R s t → R (moved s x) t) → ((s t : Seat) (x : ℕ) → R s t → R s (moved t x)) → (xs : List ℕ) (seats : List Seat) → Pairs R seats → Pairs R (resited row xs seats)
   resited_pairs R left right xs [] h = tt
   resited_pairs R left right [] (s ∷ seats) h = h
@@ -48,6 +53,11 @@ module _ (row : Row) where
         resited_pairs R left right xs seats h.1,
       ))
       (λ no. (resited_all (R s) (λ t y. right s t y) (x ∷ xs) seats h.0, resited_pairs R left right (x ∷ xs) seats h.1))
+
+  -- the seats stay in their order
+  pub resited_ordered : (xs : List ℕ) (seats : List Seat) → Ordered seat_ahead seats → Ordered seat_ahead (resited row xs seats)
+  resited_ordered xs seats ordered =
+      pairs_ordered seat_ahead (resited row xs seats) (resited_pairs (λ s t. seat_ahead s t ≡ true) (λ s t x h. h) (λ s t x h. h) xs seats (ordered_pairs seat_ahead seats ordered))
 
   -- so cells, rows and their number stay
   pub resited_cells : (xs : List ℕ) (seats : List Seat) → map (λ s. s.cell) (resited row xs seats) ≡ map (λ s. s.cell) seats
@@ -107,7 +117,7 @@ module _ (row : Row) where
     well = listed.well;
     pass = resited_all (λ s. Passes s.cell) (λ s x h. h) xs seats listed.pass;
     stand = resited_all (λ s. Standing rows s.row) (λ s x h. h) xs seats listed.stand;
-    order = pairs_ordered seat_ahead (resited row xs seats) (resited_pairs (λ s t. seat_ahead s t ≡ true) (λ s t x h. h) (λ s t x h. h) xs seats (ordered_pairs seat_ahead seats listed.order));
+    order = resited_ordered xs seats listed.order;
     differ = resited_pairs Differ (λ s t x h. h) (λ s t x h. h) xs seats listed.differ;
   }
 

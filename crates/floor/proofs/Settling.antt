@@ -1,11 +1,12 @@
 -- Setting a row of a floor: what makes `set` accept its cells, and what every floor keeps then.
-use Rattle.std.proofs.Common.{◌≡◌, ℕ, ◌+◌, ◌-◌, ◌≤◌, Bool, true, false, ◌&&◌, eqb, leb, List, [], ◌∷◌, map, length, Some, None, Option, refl, ap, ◌∙◌, ⊎_elim, arith}
+use Rattle.std.proofs.Common.{◌≡◌, ℕ, ◌+◌, ◌-◌, ◌≤◌, Bool, true, false, ◌&&◌, eqb, leb, List, [], ◌∷◌, ◌++◌, map, length, take, drop, Some, None, Option, sym, refl, ap, ◌∙◌, subst, ⊎_elim, arith}
 use Rattle.std.proofs.ByRecursion.{All-weaker, all_kept_by, All-map, kept_by_passes}
 use Rattle.std.proofs.lemmas.List.{length-map}
 use Rattle.std.proofs.lemmas.List.Sums.{length-filter, count_by-le-length}
 use Rattle.std.proofs.lemmas.Bool.{and_parts, and_from, or_cases, le-leb, eq-eqb, cond-true}
 use Rattle.std.specs.Option.{option_map}
-use Rattle.std.specs.List.{AllByRecursion}
+use Rattle.std.specs.List.{between, AllByRecursion}
+use borrow.Rule.Slice.PartMut.{put_mid}
 use Rattle.measure.specs.Costs.{Fair}
 use Rattle.row.specs.Records.{check, then, cell_fault, row_fault, before, row_ahead, widths}
 use Rattle.row.specs.Refusals.{comes_after, next_refusal, cells_refusal}
@@ -16,18 +17,24 @@ use Rattle.row.specs.declared.Cell.{Cell}
 use Rattle.row.specs.declared.Refusal.TheVariants.{OutOfRange, Size, Order, TooWide}
 use Rattle.row.specs.declared.Row.{Row}
 use Rattle.row.proofs.Accepted.{Accepted, accepted}
+use Rattle.row.proofs.Finished.{row_places}
 use Rattle.row.proofs.Instance.{lane, next_is}
 use Rattle.row.proofs.Subject.{row_answer, row_cheapest}
 use Rattle.row.proofs.Theory.Packed.{next, Chain}
+use Rattle.table.specs.Order.{Ordered}
 use Rattle.table.proofs.Inserted.{Pairs}
 use Rattle.floor.specs.Formed.{formed}
 use Rattle.floor.specs.Rows.{same_row}
-use Rattle.floor.specs.Seats.{on_row, seat_ahead, seats_on, cells_on, settled}
+use Rattle.floor.specs.Seats.{on_row, seat_ahead, seats_on, cells_on, cell_of, moved_all, settled, Sited as OfTable}
+use Rattle.floor.specs.Spans.{Spanned}
 use Rattle.floor.specs.declared.Seat.{Seat}
+use Rattle.floor.specs.declared.seats.stretch.Stretch.{Stretch}
+use Rattle.floor.proofs.Granted.{sites_each}
 use Rattle.floor.proofs.Kept.{pairs_with, pairs_both, pairs_kept}
 use Rattle.floor.proofs.Listed.{Standing, standing_passes, Listed, Sited}
+use Rattle.floor.proofs.Moved.{written_resited}
 use Rattle.floor.proofs.Orders.{same_trans, same_sym, ahead_not_same}
-use Rattle.floor.proofs.Resited.{Behind, resited_formed}
+use Rattle.floor.proofs.Resited.{Behind, resited_formed, resited_ordered, resited_sited}
 use Rattle.floor.proofs.Tests.{ordered_pairs}
 
 -- checks that let pass
@@ -134,3 +141,25 @@ module _ (price : ℕ → ℕ → ℕ → ℕ) (fair : Fair price) (row : Row) (
   -- so a floor that is formed but for the sites of the row is formed once the row is set
   pub settled_formed : (rows : List Row) → Listed rows seats → Standing rows row → ((r : Row) → same_row r row ≡ false → Sited (seats_on r seats)) → formed rows (settled price row seats) ≡ true
   settled_formed rows listed stands others = resited_formed rows row (row_sites price row cells) seats listed stands others sites_long sites_within sites_behind
+
+-- a row set by the program: its cells gathered, their sites found, and its seats moved to them in the table
+pub record Set (price : ℕ → ℕ → ℕ → ℕ) (row : Row) (seats new : List Seat) : Type 0 where
+  pub is : new ≡ settled price row seats
+  pub ordered : Ordered seat_ahead new
+  pub sited : AllByRecursion OfTable new
+
+pub set_row : {f : ℕ → ℕ → ℕ → ℕ} (fair : Fair f) (row : Row) (seats : List Seat) {looked slice moved : List Seat} {none gathered cells : List Cell} {sites : List ℕ} (r : Stretch) {n : ℕ} → Ready row (cells_on row seats) → Ordered seat_ahead seats → AllByRecursion OfTable seats → Spanned row seats r →
+    none ≡ [] → looked ≡ seats → gathered ≡ none ++ map cell_of (between r.start r.end looked) → cells ≡ gathered → sites ≡ row_sites f row cells → slice ≡ seats → moved ≡ moved_all sites (between r.start r.end slice) → n ≡ length seats →
+    Set f row seats (take n (put_mid r.start (r.end - r.start) slice moved ++ drop (length (put_mid r.start (r.end - r.start) slice moved)) seats))
+set_row {f} fair row seats {looked} {slice} {moved} {none} {gathered} {cells} {sites} r {n} ready ordered sited own empty look gather same set slices move long =
+    let cs : List Cell = cells_on row seats in
+    let all : cells ≡ cs = same ∙ gather ∙ (λ i. empty i ++ map cell_of (between r.start r.end (look i))) ∙ ap (map cell_of) own.seats_are in
+    let found : sites ≡ row_sites f row cs = set ∙ ap (row_sites f row) all in
+    let each : length (row_sites f row cs) ≡ length cs = sites_each fair row cs ready in
+    let is = written_resited row (row_sites f row cs) seats slice moved r n ordered sited own each slices (move ∙ ap (λ xs. moved_all xs (between r.start r.end slice)) found) long in
+    let places = row_places f row cs (length cs) fair (accepted row cs (length cs) ready) in
+    record {
+      is = is;
+      ordered = subst (Ordered seat_ahead) (sym is) (resited_ordered row (row_sites f row cs) seats ordered);
+      sited = subst (AllByRecursion OfTable) (sym is) (resited_sited row (row_sites f row cs) seats places sited);
+    }

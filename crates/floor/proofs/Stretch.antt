@@ -1,37 +1,27 @@
 -- The seats of a row are one stretch of an ordered table.
-use Rattle.std.proofs.Common.{◌≡◌, ℕ, ◌+◌, ◌-◌, ◌≤◌, Bool, true, false, cond, List, [], ◌∷◌, ◌++◌, map, length, take, drop, filter, sym, refl, ap, ◌∙◌, subst, append-nil, arith}
+use Rattle.std.proofs.Common.{◌≡◌, ℕ, ◌-◌, ◌≤◌, Bool, true, false, List, [], ◌∷◌, ◌++◌, map, length, take, drop, filter, sym, refl, ap, ◌∙◌, subst, append-nil, ⊎_elim, arith}
 use mathlib.Core.List.{map-append}
-use Rattle.std.proofs.lemmas.List.Edits.{split_between, length-between}
+use Rattle.std.proofs.lemmas.List.Edits.{split_between}
 use Rattle.std.proofs.lemmas.List.Elements.{filter-append}
-use Rattle.std.proofs.ByRecursion.{All-take, All-drop, All-weaker}
-use Rattle.std.proofs.lemmas.List.{drop-drop, take-append-drop, length-map, length-append}
+use Rattle.std.proofs.ByRecursion.{All-take, All-drop, All-weaker, all_kept_by}
+use Rattle.std.proofs.lemmas.List.{drop-drop, take-append-drop}
+use Rattle.std.proofs.lemmas.Bool.{cond_both, cond-true, cond-false, both_ways, cases_Bool}
+use Rattle.std.proofs.lemmas.List.Sums.{length-filter, count_by-le-length}
 use Rattle.std.proofs.lemmas.Slice.{between_is}
 use Rattle.std.specs.List.{between, AllByRecursion}
-use Rattle.row.proofs.Parts.{between_join, take_join}
 use Rattle.row.proofs.Ranges.{ranged}
-use Rattle.row.specs.Stack.{Passes}
 use Rattle.row.specs.declared.Cell.{Cell}
 use Rattle.row.specs.declared.Row.{Row}
 use Rattle.table.specs.Order.{Ordered, rank_of}
+use Rattle.table.proofs.Inserted.{put_in, inserted_is}
 use Rattle.table.proofs.Sides.{rank_within, rank_front, rank_back, rank_mono}
 use Rattle.floor.specs.Seats.{on_row, seat_ahead, seats_on, cells_on, cell_of, Sited, row_key, start_of, end_of, new_seat, joined}
+use Rattle.floor.specs.Spans.{Spanned}
 use Rattle.floor.specs.declared.Seat.{Seat}
+use Rattle.floor.specs.declared.seats.stretch.Stretch.{Stretch}
 use Rattle.floor.proofs.Defaults.{no_seat}
+use Rattle.floor.proofs.Kept.{kept_yes, kept_no, kept_all, kept_none, all_with}
 use Rattle.floor.proofs.Orders.{seat_chain}
-
--- a filter that keeps nothing, and one that keeps all
-kept_none : {X : Type 0} (test : X → Bool) (xs : List X) → AllByRecursion (λ x. test x ≡ false) xs → filter test xs ≡ []
-kept_none test [] h = refl
-kept_none test (x ∷ xs) h = ap (λ b. cond b (x ∷ filter test xs) (filter test xs)) h.0 ∙ kept_none test xs h.1
-
-kept_all : {X : Type 0} (test : X → Bool) (xs : List X) → AllByRecursion (λ x. test x ≡ true) xs → filter test xs ≡ xs
-kept_all test [] h = refl
-kept_all test (x ∷ xs) h = ap (λ b. cond b (x ∷ filter test xs) (filter test xs)) h.0 ∙ ap (λ l. x ∷ l) (kept_all test xs h.1)
-
--- two facts of each element give a third
-both_all : {X : Type 0} (P Q S : X → Type 0) → ((x : X) → P x → Q x → S x) → (xs : List X) → AllByRecursion P xs → AllByRecursion Q xs → AllByRecursion S xs
-both_all P Q S give [] ps qs = tt
-both_all P Q S give (x ∷ xs) ps qs = (give x ps.0 qs.0, both_all P Q S give xs ps.1 qs.1)
 
 -- what the two keys of a row say of a seat
 before_low : (row : Row) (s : Seat) → seat_ahead s (row_key row 0) ≡ true → on_row row s ≡ false
@@ -46,23 +36,8 @@ among row s low high = grind arith
 low_high : (row : Row) (s : Seat) → seat_ahead s (row_key row 0) ≡ true → seat_ahead s (row_key row 65536) ≡ true
 low_high row s e = grind arith
 
-low_new : (row : Row) (cell : Cell) (s : Seat) → seat_ahead s (row_key row 0) ≡ true → seat_ahead s (new_seat row cell) ≡ true
-low_new row cell s e = grind arith
-
-new_high : (row : Row) (cell : Cell) (s : Seat) → cell.wanted.site ≤ 65535 → seat_ahead s (new_seat row cell) ≡ true → seat_ahead s (row_key row 65536) ≡ true
-new_high row cell s low e = grind arith
-
 on_own : (row : Row) (cell : Cell) → on_row row (new_seat row cell) ≡ true
 on_own row cell = grind arith
-
--- the parts of a list that is cut in two
-all_front : {X : Type 0} (P : X → Type 0) (xs ys : List X) → AllByRecursion P (xs ++ ys) → AllByRecursion P xs
-all_front P [] ys h = tt
-all_front P (x ∷ xs) ys h = (h.0, all_front P xs ys h.1)
-
-all_rest : {X : Type 0} (P : X → Type 0) (xs ys : List X) → AllByRecursion P (xs ++ ys) → AllByRecursion P ys
-all_rest P [] ys h = h
-all_rest P (x ∷ xs) ys h = all_rest P xs ys h.1
 
 -- what is left behind a place, cut at another
 pub drop_join : {X : Type 0} (xs : List X) (a b : ℕ) → a ≤ b → between a b xs ++ drop b xs ≡ drop a xs
@@ -87,12 +62,12 @@ module _ (row : Row) (seats : List Seat) (ordered : Ordered seat_ahead seats) (l
 
   none_after : AllByRecursion (λ s. on_row row s ≡ false) (drop high seats)
   none_after =
-      both_all (λ s. s.cell.wanted.site ≤ 65535) (λ s. seat_ahead s (row_key row 65536) ≡ false) (λ s. on_row row s ≡ false) (past_high row) (drop high seats)
+      all_with (λ s. s.cell.wanted.site ≤ 65535) (λ s. seat_ahead s (row_key row 65536) ≡ false) (λ s. on_row row s ≡ false) (past_high row) (drop high seats)
       (All-drop (λ s. s.cell.wanted.site ≤ 65535) high seats low_sites) (rank_back seat_ahead seat_chain (row_key row 65536) no_seat seats ordered)
 
   pub all_among : AllByRecursion (λ s. on_row row s ≡ true) (between low high seats)
   all_among =
-      both_all (λ s. seat_ahead s (row_key row 0) ≡ false) (λ s. seat_ahead s (row_key row 65536) ≡ true) (λ s. on_row row s ≡ true) (among row) (between low high seats)
+      all_with (λ s. seat_ahead s (row_key row 0) ≡ false) (λ s. seat_ahead s (row_key row 65536) ≡ true) (λ s. on_row row s ≡ true) (among row) (between low high seats)
       (All-take (λ s. seat_ahead s (row_key row 0) ≡ false) (high - low) (drop low seats) (rank_back seat_ahead seat_chain (row_key row 0) no_seat seats ordered))
       (subst (AllByRecursion (λ s. seat_ahead s (row_key row 65536) ≡ true)) (sym (between_is seats low high))
       (All-drop (λ s. seat_ahead s (row_key row 65536) ≡ true) low (take high seats) (rank_front seat_ahead seat_chain (row_key row 65536) no_seat seats ordered)))
@@ -111,66 +86,73 @@ module _ (row : Row) (seats : List Seat) (ordered : Ordered seat_ahead seats) (l
       ∙ ap (λ l. between low high seats ++ l) behind
       ∙ append-nil (between low high seats)
 
-  module _ (cell : Cell) (passes : Passes cell) where
-    abbrev at : ℕ
-    at = rank_of seat_ahead seats (new_seat row cell)
-
-    pub start_at : low ≤ at
-    start_at = rank_mono seat_ahead (row_key row 0) (new_seat row cell) (low_new row cell) seats
-
-    pub at_end : at ≤ high
-    at_end = rank_mono seat_ahead (new_seat row cell) (row_key row 65536) (λ s. new_high row cell s (ranged cell passes).site) seats
-
-    parted : between low at seats ++ between at high seats ≡ between low high seats
-    parted = between_join seats low at high start_at at_end
-
-    among_parts : AllByRecursion (λ s. on_row row s ≡ true) (between low at seats ++ between at high seats)
-    among_parts = subst (AllByRecursion (λ s. on_row row s ≡ true)) (sym parted) all_among
-
-    -- the seats of a row with a cell more
-    pub joined_stretch : seats_on row (joined row cell seats) ≡ between low at seats ++ (new_seat row cell ∷ between at high seats)
-    joined_stretch =
-        let s : Seat = new_seat row cell in
-        let front = kept_all (on_row row) (between low at seats) (all_front (λ t. on_row row t ≡ true) (between low at seats) (between at high seats) among_parts) in
-        let back = kept_all (on_row row) (between at high seats) (all_rest (λ t. on_row row t ≡ true) (between low at seats) (between at high seats) among_parts) in
-        let before : filter (on_row row) (take at seats) ≡ between low at seats =
-        ap (filter (on_row row)) (sym (take_join seats low at start_at))
-        ∙ filter-append (on_row row) (take low seats) (between low at seats)
-        ∙ ap (λ l. l ++ filter (on_row row) (between low at seats)) (kept_none (on_row row) (take low seats) none_before)
-        ∙ front in
-        let behind : filter (on_row row) (drop at seats) ≡ between at high seats =
-        ap (filter (on_row row)) (sym (drop_join seats at high at_end))
-        ∙ filter-append (on_row row) (between at high seats) (drop high seats)
-        ∙ ap (λ l. filter (on_row row) (between at high seats) ++ l) (kept_none (on_row row) (drop high seats) none_after)
-        ∙ append-nil (filter (on_row row) (between at high seats))
-        ∙ back in
-        filter-append (on_row row) (take at seats) (s ∷ drop at seats)
-        ∙ ap (λ l. l ++ filter (on_row row) (s ∷ drop at seats)) before
-        ∙ ap (λ l. between low at seats ++ l) (ap (λ b. cond b (s ∷ filter (on_row row) (drop at seats)) (filter (on_row row) (drop at seats))) (on_own row cell) ∙ ap (λ l. s ∷ l) behind)
-
 -- seats of cells within their ranges are wanted at places
 pub wanted_places : (seats : List Seat) → AllByRecursion Sited seats → AllByRecursion (λ s. s.cell.wanted.site ≤ 65535) seats
 wanted_places seats sited = All-weaker Sited (λ s. s.cell.wanted.site ≤ 65535) (λ s h. (ranged s.cell h.0).site) seats sited
 
--- The same by the numbers that a search answers: where a row's seats begin and end, and where a new one goes.
-pub record Found (row : Row) (cell : Cell) (seats : List Seat) (start at end : ℕ) : Type 0 where
-  pub first : start ≤ at
-  pub second : at ≤ end
-  pub within : end ≤ length seats
-  pub cells : map cell_of (between start at seats) ++ (cell ∷ map cell_of (between at end seats)) ≡ cells_on row (joined row cell seats)
-  pub count : end - start + 1 ≡ length (cells_on row (joined row cell seats))
+-- a stretch that begins and ends where a search says
+pub spanned : (row : Row) (seats : List Seat) (r : Stretch) → Ordered seat_ahead seats → AllByRecursion Sited seats → r.start ≡ start_of row seats → r.end ≡ end_of row seats → Spanned row seats r
+spanned row seats r ordered sited start end =
+    let places = wanted_places seats sited in
+    let first = start_end row seats ordered places in
+    let within = end_within row seats ordered places in
+    record {
+      start = start;
+      end = end;
+      first = omega arith;
+      bound = omega arith;
+      seats_are = (λ i. between (start i) (end i) seats) ∙ sym (seats_stretch row seats ordered places);
+    }
 
-pub found : (row : Row) (cell : Cell) (seats : List Seat) (start at end : ℕ) → Ordered seat_ahead seats → AllByRecursion Sited seats → Passes cell → start ≡ start_of row seats → at ≡ rank_of seat_ahead seats (new_seat row cell) → end ≡ end_of row seats → Found row cell seats start at end
-found row cell seats start at end ordered sited passes s a e =
-    let low = wanted_places seats sited in
-    let first = start_at row seats ordered low cell passes in
-    let second = at_end row seats ordered low cell passes in
-    let within = end_within row seats ordered low in
-    let all = ap (map cell_of) (joined_stretch row seats ordered low cell passes) ∙ map-append cell_of (between (start_of row seats) (rank_of seat_ahead seats (new_seat row cell)) seats) _ in
-    let cells : map cell_of (between start at seats) ++ (cell ∷ map cell_of (between at end seats)) ≡ cells_on row (joined row cell seats) =
-    (λ i. map cell_of (between (s i) (a i) seats) ++ (cell ∷ map cell_of (between (a i) (e i) seats))) ∙ sym all in
-    let front_long = length-map (between start at seats) cell_of ∙ length-between seats start at (omega arith) in
-    let back_long = length-map (between at end seats) cell_of ∙ length-between seats at end (omega arith) in
-    let both_long = length-append (map cell_of (between start at seats)) (cell ∷ map cell_of (between at end seats)) in
-    let same = ap length cells in
-    record { first = omega arith; second = omega arith; within = omega arith; cells = cells; count = omega arith }
+-- what is known of the seats of a row
+pub on_sited : (row : Row) (seats slice : List Seat) → slice ≡ seats_on row seats → AllByRecursion Sited seats → AllByRecursion Sited slice
+on_sited row seats slice same sited = subst (AllByRecursion Sited) (sym same) (all_kept_by (on_row row) Sited seats sited)
+
+pub on_few : (row : Row) (seats : List Seat) → length (seats_on row seats) ≤ length seats
+on_few row seats = let kept = length-filter (on_row row) seats in let few = count_by-le-length (on_row row) seats in omega arith
+
+-- the seats of a row are in their order
+pub on_ordered : (row : Row) (seats slice : List Seat) → slice ≡ seats_on row seats → Ordered seat_ahead seats → Ordered seat_ahead slice
+on_ordered row seats slice same ordered = subst (Ordered seat_ahead) (sym same) (kept_ordered seats ordered)
+  where
+    kept_ordered : (ss : List Seat) → Ordered seat_ahead ss → Ordered seat_ahead (seats_on row ss)
+    kept_ordered [] h = tt
+    kept_ordered (s ∷ ss) h =
+        cond_both (on_row row s) (s ∷ seats_on row ss) (seats_on row ss) (Ordered seat_ahead) (λ yes. (all_kept_by (on_row row) (λ t. seat_ahead s t ≡ true) ss h.0, kept_ordered ss h.1)) (λ no. kept_ordered ss h.1)
+
+-- a key that no record is ahead of goes first
+put_first : {X : Type 0} (ahead : X → X → Bool) (k : X) (xs : List X) → AllByRecursion (λ x. ahead x k ≡ false) xs → put_in ahead k xs ≡ k ∷ xs
+put_first ahead k [] h = refl
+put_first ahead k (x ∷ xs) h = cond-false (ahead x k) (x ∷ put_in ahead k xs) (k ∷ x ∷ xs) h.0
+
+-- a record that is not ahead of a key, with all that it is ahead of
+behind_too : (k s : Seat) (seats : List Seat) → seat_ahead s k ≡ false → AllByRecursion (λ t. seat_ahead s t ≡ true) seats → AllByRecursion (λ t. seat_ahead t k ≡ false) seats
+behind_too k s seats not all =
+    All-weaker (λ t. seat_ahead s t ≡ true) (λ t. seat_ahead t k ≡ false) (λ t first. ⊎_elim (λ yes. absurd (both_ways (seat_ahead s k) not (seat_chain s t k first yes))) (λ no. no) (cases_Bool (seat_ahead t k))) seats all
+
+-- a seat that joins an ordered table joins the seats of its row
+pub put_on : (row : Row) (k : Seat) (seats : List Seat) → on_row row k ≡ true → Ordered seat_ahead seats → seats_on row (put_in seat_ahead k seats) ≡ put_in seat_ahead k (seats_on row seats)
+put_on row k [] own ordered = kept_yes (on_row row) k [] own
+put_on row k (s ∷ seats) own ordered =
+    let rest = put_on row k seats own ordered.1 in
+    cond_both (seat_ahead s k) (s ∷ put_in seat_ahead k seats) (k ∷ s ∷ seats) (λ l. seats_on row l ≡ put_in seat_ahead k (seats_on row (s ∷ seats)))
+    (λ first.
+    cond_both (on_row row s) (s ∷ seats_on row (put_in seat_ahead k seats)) (seats_on row (put_in seat_ahead k seats)) (λ l. l ≡ put_in seat_ahead k (seats_on row (s ∷ seats)))
+    (λ on. ap (λ l. s ∷ l) rest ∙ sym (cond-true (seat_ahead s k) (s ∷ put_in seat_ahead k (seats_on row seats)) (k ∷ s ∷ seats_on row seats) first) ∙ ap (put_in seat_ahead k) (sym (kept_yes (on_row row) s seats on)))
+    (λ off. rest ∙ ap (put_in seat_ahead k) (sym (kept_no (on_row row) s seats off))))
+    (λ not.
+    kept_yes (on_row row) k (s ∷ seats) own
+    ∙ sym (put_first seat_ahead k (seats_on row (s ∷ seats)) (all_kept_by (on_row row) (λ t. seat_ahead t k ≡ false) (s ∷ seats) (not, behind_too k s seats not ordered.0))))
+
+-- the cells of a row with a cell more, where the row's own seats are cut at the place that a search says
+pub joined_at : (row : Row) (cell : Cell) (seats slice : List Seat) (key : Seat) (at : ℕ) (before behind : List Seat) → Ordered seat_ahead seats → slice ≡ seats_on row seats → key ≡ new_seat row cell → at ≡ rank_of seat_ahead slice key → before ≡ take at slice → behind ≡ drop at slice →
+    map cell_of before ++ cell ∷ map cell_of behind ≡ cells_on row (joined row cell seats)
+joined_at row cell seats slice key at before behind ordered same new is front back =
+    let k : Seat = new_seat row cell in
+    let own : List Seat = seats_on row seats in
+    let place : at ≡ rank_of seat_ahead own k = is ∙ (λ i. rank_of seat_ahead (same i) (new i)) in
+    let put : seats_on row (joined row cell seats) ≡ take (rank_of seat_ahead own k) own ++ k ∷ drop (rank_of seat_ahead own k) own =
+    ap (seats_on row) (inserted_is seat_ahead k seats) ∙ put_on row k seats (on_own row cell) ordered ∙ sym (inserted_is seat_ahead k own) in
+    (λ i. map cell_of (front i) ++ cell ∷ map cell_of (back i))
+    ∙ (λ i. map cell_of (take (place i) (same i)) ++ cell ∷ map cell_of (drop (place i) (same i)))
+    ∙ sym (ap (map cell_of) put ∙ map-append cell_of (take (rank_of seat_ahead own k) own) (k ∷ drop (rank_of seat_ahead own k) own))

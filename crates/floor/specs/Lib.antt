@@ -4,6 +4,7 @@ pub mod Refusals
 pub mod Calls
 pub mod Choices
 pub mod Formed
+pub mod Kept
 pub mod Settled
 pub mod Spans
 pub mod State

@@ -3,6 +3,7 @@
 --   stands           whether a number stands
 --   has_sites        whether a row has sites for a cell beside those that stand there
 --   add_refusal, place_refusal     the first check of a call that fails, if one does
+--   cell_refusal     the same of the checks of placing that do not look at the rows
 --   stands_by, has_sites_by, place_refusal_by     the same of whatever holds a cell and its row
 use Rattle.std.specs.Prelude.{ℕ, ◌+◌, ◌-◌, Bool, false, not, ◌||◌, List, [], ◌∷◌, length, None, Option, nat_eq, nat_le, nat_lt}
 use Rattle.std.specs.Option.{option_map}
@@ -53,6 +54,13 @@ place_refusal rows seats cell =
     (check (not (stands cell.number seats)) NumberStands
     (check (nat_lt (length seats) 1024) CellsFull
     (check (any (has_sites seats cell) rows) NoRoom None)))
+
+-- the checks of placing a cell that do not look at the rows, in their order: its ranges; its number stands; 1,024 cells stand
+abbrev pub cell_refusal : List Seat → Cell → Option Refusal
+cell_refusal seats cell =
+    then (option_map OutOfRange (cell_fault cell))
+    (check (not (stands cell.number seats)) NumberStands
+    (check (nat_lt (length seats) 1024) CellsFull None))
 
 -- What stands is a list of records that hold a cell and the row that it stands on.
 module _ {X : Type 0} (cell_of : X → Cell) (row_of : X → Row) where

@@ -5,7 +5,7 @@ use Rattle.std.specs.List.{between}
 use Rattle.row.specs.declared.Row.{Row}
 use Rattle.floor.specs.Seats.{seats_on, start_of, end_of}
 use Rattle.floor.specs.declared.Seat.{Seat}
-use Rattle.floor.specs.declared.seats.Stretch.{Stretch}
+use Rattle.floor.specs.declared.seats.stretch.Stretch.{Stretch}
 
 -- a stretch of the table that is the seats of a row
 pub record Spanned (row : Row) (seats : List Seat) (r : Stretch) : Type 0 where

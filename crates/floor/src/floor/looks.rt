@@ -6,7 +6,6 @@ ghost use Rattle.floor.specs.State.{seats_of};
 
 use crate::Refusal;
 use crate::floor::Floor;
-use crate::seats::find;
 use measure::Measure;
 use row::Spot;
 
@@ -15,13 +14,13 @@ impl<M: Measure> Floor<M> {
     pub fn where_is(&self, number: u32) -> Result<Spot, Refusal>
         ensures { result ≡ where_answer (seats_of self.now) number }
     {
-        match find(self.seats.items.as_slice(), number) {
-            Some(seat) => Ok(Spot {
+        self.seats
+            .find(number)
+            .map(|seat| Spot {
                 line: seat.row.line,
                 site: seat.site,
-            }),
-            None => Err(Refusal::NotStanding),
-        }
+            })
+            .ok_or(Refusal::NotStanding)
     }
 
     // What the floor costs: for each standing cell, the cost of its site and of its line.
@@ -29,8 +28,9 @@ impl<M: Measure> Floor<M> {
         ensures value { result ≡ floor_cost (M.price self.now.measure) (seats_of self.now) }
         ensures bound { result ≤ 2 ^ 53 }
     {
-        let seats = self.seats.items.as_slice();
+        let seats = self.seats.as_slice();
         let mut sum: u64 = 0;
+        // A rule of the project: the floor's cost is a `for` loop over the seats.
         for seat in seats {
             let across = self
                 .measure

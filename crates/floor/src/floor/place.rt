@@ -1,33 +1,45 @@
 // Placing a cell: the checks, the row of least rise, and the row set with the cell.
-ghost use Rattle.std.specs.Prelude.{◌≡◌};
+ghost use Rattle.std.specs.Prelude.{◌≡◌, None};
+ghost use Rattle.std.specs.Option.{option_map};
 ghost use Rattle.row.specs.Checked.{checked};
-ghost use Rattle.floor.specs.Calls.{place_answer, seats_after_place};
-ghost use Rattle.floor.specs.Refusals.{place_refusal};
+ghost use Rattle.floor.specs.Calls.{chosen, place_answer, seats_after_place};
+ghost use Rattle.floor.specs.Choices.{choice_of};
+ghost use Rattle.floor.specs.Refusals.{cell_refusal};
 ghost use Rattle.floor.specs.State.{rows_of, seats_of};
 
-use crate::choice::{any_sites, choose};
+use crate::choice::{Choice, Offer};
 use crate::floor::Floor;
-use crate::seats::{find, number_stands};
 use crate::{Placing, Refusal};
 use measure::Measure;
 use row::{Cell, Spot};
 
 impl<M: Measure> Floor<M> {
-    // Refuses a cell that cannot be placed, by the first check that fails.
-    fn check_place(&self, cell: &Cell) -> Result<(), Refusal>
-        ensures { checked result ≡ place_refusal (rows_of self.now) (seats_of self.now) cell.now }
+    // Refuses a cell that no row can take, by the first check that fails.
+    fn check_cell(&self, cell: &Cell) -> Result<(), Refusal>
+        ensures { checked result ≡ cell_refusal (seats_of self.now) cell.now }
     {
         cell.check()?;
-        if number_stands(self.seats.items.as_slice(), cell.number) {
+        if self.seats.has_number(cell.number) {
             return Err(Refusal::NumberStands);
         }
-        if self.seats.items.len() >= 1_024 {
+        if self.seats.len() >= 1_024 {
             return Err(Refusal::CellsFull);
         }
-        if !any_sites(self.rows.as_slice(), self.seats.items.as_slice(), cell) {
-            return Err(Refusal::NoRoom);
-        }
         Ok(())
+    }
+
+    // The row of least rise for a cell, with its rise, if a row has sites for it.
+    fn choose(&self, cell: Cell) -> Option<Choice>
+        requires { cell_refusal (seats_of self.now) cell ≡ None }
+        ensures { result ≡ option_map (choice_of (M.price self.now.measure) (seats_of self.now) cell)
+            (chosen (M.price self.now.measure) (seats_of self.now) cell (rows_of self.now)) }
+    {
+        let offer = Offer {
+            measure: &self.measure,
+            seats: &self.seats,
+            cell,
+        };
+        offer.choose(self.rows.as_slice())
     }
 
     // Places a cell on the row of least rise, and sets that row. Answers where the cell stands, and the rise.
@@ -37,23 +49,13 @@ impl<M: Measure> Floor<M> {
         ensures rows { rows_of self.new ≡ rows_of self.old }
         ensures same { self.new.measure ≡ self.old.measure }
     {
-        self.check_place(&cell)?;
-        let Some(choice) = choose(
-            &self.measure,
-            self.rows.as_slice(),
-            self.seats.items.as_slice(),
-            cell,
-        ) else {
-            return Err(Refusal::NoRoom);
-        };
+        self.check_cell(&cell)?;
+        let choice = self.choose(cell).ok_or(Refusal::NoRoom)?;
         self.seats.seat(&self.measure, choice.row, cell);
-        let site = match find(self.seats.items.as_slice(), cell.number) {
-            Some(seat) => seat.site,
-            None => 0,
-        };
+        let seat = self.seats.find(cell.number).unwrap();
         let spot = Spot {
             line: choice.row.line,
-            site,
+            site: seat.site,
         };
         Ok(Placing {
             spot,

@@ -24,12 +24,7 @@ fn shares(a: &Row, b: &Row) -> bool
 fn shares_any(row: &Row, rows: &[Row]) -> bool
     ensures { result ≡ any (share row.now) rows.now }
 {
-    for other in rows {
-        if shares(row, other) {
-            return true;
-        }
-    }
-    false
+    rows.iter().any(|other| shares(row, other))
 }
 
 impl<M: Drop> Floor<M> {
@@ -38,11 +33,11 @@ impl<M: Drop> Floor<M> {
         ensures { IfOk result (λ f. (f.measure ≡ measure) × (rows_of f ≡ []) × (seats_of f ≡ [])) }
     {
         let rows = Vec::with_capacity(heap, 64)?;
-        let items = Vec::with_capacity(heap, 1_024)?;
+        let seats = Seats::new(heap)?;
         Ok(Floor {
             measure,
             rows,
-            seats: Seats { items },
+            seats,
         })
     }
 
@@ -69,9 +64,7 @@ impl<M: Drop> Floor<M> {
     {
         self.check_row(&row)?;
         let at = place_of(self.rows.as_slice(), &row);
-        match self.rows.insert(at, row) {
-            Ok(_) => Ok(()),
-            Err(_) => unreachable(),
-        }
+        self.rows.insert(at, row).unwrap();
+        Ok(())
     }
 }

@@ -36,9 +36,13 @@ returns g c =
     let well : formed rows seats ≡ true = c.args.self.now.well in
     let at : c.place_of-at.result ≡ rank_of row_ahead rows row =
     c.place_of-at.ensures.finds (subst (Ordered row_ahead) (sym c.as_slice.ensures.value) (ordered_rows rows seats well)) ∙ ap (λ l. rank_of row_ahead l row) c.as_slice.ensures.value in
+    let room : (vec_len c.args.self.now.rows ≤ 64) × (64 ≤ vec_capacity c.args.self.now.rows) × (vec_len c.args.self.now.seats.items ≤ 1024) × (1024 ≤ vec_capacity c.args.self.now.seats.items) = c.args.self.now.room in
+    let counted : vec_len c.args.self.now.rows ≡ length rows = c.args.self.now.rows.ok.0 in
+    let few : length rows < 64 = not_full rows row (sym none) in
+    let ok : is_ok c.insert.result ≡ true = c.insert.ensures.succeeds (omega arith) in
     record {
       answer = none;
-      rows = c.in-Ok.ensures.items ∙ ap (λ n. insert rows n row) at ∙ ap (λ refused. changed refused (with_row rows row) rows) none;
+      rows = c.insert.ensures.items ∙ cond-true (is_ok c.insert.result) _ _ ok ∙ ap (λ n. insert rows n row) at ∙ ap (λ refused. changed refused (with_row rows row) rows) none;
       seats = refl;
       same = refl;
     }

@@ -1,48 +1,36 @@
-use Rattle.std.proofs.Common.{◌≡◌, ◌≤◌, true, length, vec_items, vec_len, vec_capacity, sym, ap, ◌∙◌, arith}
+use Rattle.std.proofs.Common.{IsSome, ap, ◌∙◌, sym, subst}
+use Rattle.std.specs.Option.{ok_or}
+use Rattle.floor.specs.Calls.{seat_of}
 use Rattle.floor.specs.Formed.{formed}
-use Rattle.floor.proofs.Placed.{row_chosen, then_ordered, then_sited, then_few, then_ready, then_formed}
-use Rattle.floor.proofs.Ready.{ordered_seats, able}
+use Rattle.floor.specs.declared.Refusal.TheVariants.{NoRoom}
+use Rattle.floor.proofs.Placed.{chose, answers, seats_then, seated_found}
 use Rattle.floor.proofs.floor.Floor.place.Goals as goal
 
-pub seat-requires : goal.seat-requires
-seat-requires g c =
+pub seat-requires-clause-ready : goal.seat-requires-clause-ready
+seat-requires-clause-ready g c =
     let self = c.args.self.now in
-    let rows = vec_items self.rows in
-    let seats = vec_items self.seats.items in
-    let f = g.M.Measure.price self.measure in
-    let fair = g.met.M.Measure.fair self.measure in
-    let well : formed rows seats ≡ true = self.well in
-    let none = sym c.in_ok-check_place.ensures in
-    let cell = c.args.cell in
-    let row = c.in-Some.choice.row in
-    let is = row_chosen f rows seats c.as_slice.result.now c.as_slice-2.result.now cell c.in-Some.choice c.as_slice.ensures.value c.as_slice-2.ensures.value c.in-Some.ensures in
-    let few = (able rows seats well cell none).few in
-    let long : vec_len self.seats.items ≡ length seats = self.seats.items.ok.0 in
-    let cap : 1024 ≤ vec_capacity self.seats.items = self.room.3 in
-    record {
-      ordered = ordered_seats rows seats well;
-      then_ordered = then_ordered fair rows seats well cell none row is;
-      then_sited = then_sited fair rows seats well cell none row is;
-      few = then_few fair rows seats well cell none row is;
-      room = omega arith;
-      ready = then_ready fair rows seats well cell none row is;
-    }
+    (chose (g.met.M.Measure.fair self.measure) self.rows.items self.seats.items.items c.args.cell c.in_ok-choice.choice self.well (sym c.in_ok-check_cell.ensures) (c.in_ok-choice.ensures.value ∙ ap (λ o. ok_or o NoRoom) c.choose.ensures)).ready
 
-pub invariant_of-self-2 : goal.invariant_of-self-2
-invariant_of-self-2 g c =
+pub invariant_of-self : goal.invariant_of-self
+invariant_of-self g c =
     let self = c.args.self.now in
-    let rows = vec_items self.rows in
-    let seats = vec_items self.seats.items in
-    let f = g.M.Measure.price self.measure in
-    let fair = g.met.M.Measure.fair self.measure in
-    let well : formed rows seats ≡ true = self.well in
-    let none = sym c.in_ok-check_place.ensures in
-    let cell = c.args.cell in
-    let row = c.in-Some.choice.row in
-    let is = row_chosen f rows seats c.as_slice.result.now c.as_slice-2.result.now cell c.in-Some.choice c.as_slice.ensures.value c.as_slice-2.ensures.value c.in-Some.ensures in
-    let few = (able rows seats well cell none).few in
-    let long : vec_len self.seats.items ≡ length seats = self.seats.items.ok.0 in
-    let cap : 1024 ≤ vec_capacity self.seats.items = self.room.3 in
-    let longer = c.seat.ensures.len in
-    let roomy = c.seat.ensures.capacity in
-    record { room = (self.room.0, self.room.1, omega arith, omega arith); well = ap (formed rows) c.seat.ensures.items ∙ then_formed fair rows seats well cell none row is }
+    let known = chose (g.met.M.Measure.fair self.measure) self.rows.items self.seats.items.items c.args.cell c.in_ok-choice.choice self.well (sym c.in_ok-check_cell.ensures) (c.in_ok-choice.ensures.value ∙ ap (λ o. ok_or o NoRoom) c.choose.ensures) in
+    let room = c.seat.new.self.room in
+    record { room = (self.room.0, self.room.1, room.0, room.1); well = ap (formed self.rows.items) c.seat.ensures ∙ known.well }
+
+pub unwrap-seat-requires : goal.unwrap-seat-requires
+unwrap-seat-requires g c =
+    let self = c.args.self.now in
+    subst IsSome (sym (c.find.ensures ∙ ap (seat_of c.args.cell.number) c.seat.ensures)) (seated_found (g.M.Measure.price self.measure) self.seats.items.items c.args.cell c.in_ok-choice.choice.row)
+
+pub returns-clause-answer : goal.returns-clause-answer
+returns-clause-answer g c =
+    let self = c.args.self.now in
+    let known = chose (g.met.M.Measure.fair self.measure) self.rows.items self.seats.items.items c.args.cell c.in_ok-choice.choice self.well (sym c.in_ok-check_cell.ensures) (c.in_ok-choice.ensures.value ∙ ap (λ o. ok_or o NoRoom) c.choose.ensures) in
+    answers self.rows.items self.seats.items.items c.seat.new.self.items.items c.args.cell c.in_ok-choice.choice c.unwrap-seat.result known c.seat.ensures (sym c.find.ensures ∙ c.unwrap-seat.ensures)
+
+pub returns-clause-seats : goal.returns-clause-seats
+returns-clause-seats g c =
+    let self = c.args.self.now in
+    let known = chose (g.met.M.Measure.fair self.measure) self.rows.items self.seats.items.items c.args.cell c.in_ok-choice.choice self.well (sym c.in_ok-check_cell.ensures) (c.in_ok-choice.ensures.value ∙ ap (λ o. ok_or o NoRoom) c.choose.ensures) in
+    c.seat.ensures ∙ seats_then self.rows.items self.seats.items.items c.args.cell c.in_ok-choice.choice known

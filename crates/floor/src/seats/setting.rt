@@ -1,0 +1,80 @@
+// Setting a row: its cells are gathered, and its seats moved to their sites.
+ghost use Rattle.std.specs.Prelude.{◌≡◌, ◌<◌, [], false, length, None};
+ghost use Rattle.row.specs.Records.{cell_fault};
+ghost use Rattle.row.specs.Sites.{row_sites, sites_cost};
+ghost use Rattle.row.specs.Stack.{Ready};
+ghost use Rattle.floor.specs.Calls.{seated};
+ghost use Rattle.floor.specs.Refusals.{stands};
+ghost use Rattle.floor.specs.Seats.{moved_all, cells_on, joined, settled};
+
+use crate::Seat;
+use crate::cells::RowCells;
+use crate::seats::Seats;
+use measure::Measure;
+use row::{Cell, Row, set};
+use table::place_of;
+
+// Sets a row that `set` does not refuse: fills the sites, and answers what they cost.
+pub(crate) fn set_ready<M: Measure>(measure: &M, row: Row, cells: &[Cell], sites: &mut [u32]) -> u64
+    requires ready { Ready row cells.now }
+    requires each { length sites.old ≡ length cells.now }
+    ensures answer { result ≡ sites_cost (M.price measure.now) cells.now (row_sites (M.price measure.now) row cells.now) }
+    ensures after { sites.new ≡ row_sites (M.price measure.now) row cells.now }
+{
+    set(measure, row, cells, sites).unwrap()
+}
+
+// Moves seats to sites, one after another; of each seat only the site is rewritten.
+fn move_to(seats: &mut [Seat], sites: &[u32])
+    requires { length seats.old ≡ length sites.now }
+    ensures { seats.new ≡ moved_all sites.now seats.old }
+{
+    for (k, seat) in seats.iter_mut().enumerate() {
+        seat.site = sites[k];
+    }
+}
+
+impl Seats {
+    // Adds the cells of a row with one cell more, in wanted order.
+    pub(crate) fn gather_with(&self, row: Row, cell: Cell, cells: &mut RowCells)
+        requires few { length self.now.items.items < 1024 }
+        requires empty { cells.old ≡ [] }
+        ensures { cells.new ≡ cells_on row (joined row cell self.now.items.items) }
+    {
+        let seats = self.on(row);
+        let at = place_of(seats, &Seat::new(row, cell));
+        let (before, behind) = seats.split_at(at);
+        cells.push_all(before);
+        cells.push(cell);
+        cells.push_all(behind);
+    }
+
+    // Sets a row: only the sites of its own seats are rewritten.
+    fn settle<M: Measure>(&mut self, measure: &M, row: Row)
+        requires { Ready row (cells_on row self.old.items.items) }
+        ensures { self.new.items.items ≡ settled (M.price measure.now) row self.old.items.items }
+    {
+        let stretch = self.stretch_of(row);
+        let mut cells = RowCells::new();
+        cells.push_all(&self.items[stretch.start..stretch.end]);
+        let cells = cells.as_slice();
+        let mut sites = [0; 1_024];
+        let sites = &mut sites[0..cells.len()];
+        let _ = set_ready(measure, row, cells, sites);
+        move_to(&mut self.items[stretch.start..stretch.end], sites);
+    }
+
+    // Puts a cell on a row, in its place, and sets the row.
+    pub(crate) fn seat<M: Measure>(&mut self, measure: &M, row: Row, cell: Cell)
+        requires passes { cell_fault cell ≡ None }
+        requires fresh { stands cell.number self.old.items.items ≡ false }
+        requires few { length self.old.items.items < 1024 }
+        requires ready { Ready row (cells_on row (joined row cell self.old.items.items)) }
+        ensures { self.new.items.items ≡ seated (M.price measure.now) self.old.items.items cell row }
+    {
+        let seat = Seat::new(row, cell);
+        let at = self.place(&seat);
+        self.items.insert(at, seat).unwrap();
+        self.settle(measure, row);
+    }
+}

@@ -1,0 +1,84 @@
+// The seats of one row: where they are in the table, how wide they are, and what their sites cost.
+ghost use Rattle.std.specs.Prelude.{◌≡◌, ◌^◌, ◌≤◌, length};
+ghost use Rattle.std.specs.List.{AllByRecursion};
+ghost use Rattle.floor.specs.Refusals.{has_sites};
+ghost use Rattle.floor.specs.Seats.{Sited, row_key, row_cost, seat_ahead, seats_on};
+ghost use Rattle.floor.specs.Spans.{Spanned};
+ghost use Rattle.table.specs.Order.{Ordered};
+
+use crate::Seat;
+use crate::seats::Seats;
+use measure::Measure;
+use row::{Cell, Row, Spot};
+
+// The seats of one row in the table: from `start` to `end` - 1.
+#[derive(Clone, Copy)]
+pub(crate) struct Stretch {
+    pub(crate) start: usize,
+    pub(crate) end: usize,
+}
+
+// A key for the seats of a row: a seat that is wanted at this site.
+fn key(row: Row, site: u32) -> Seat
+    ensures { result ≡ row_key row site }
+{
+    let wanted = Spot { line: 0, site };
+    let cell = Cell {
+        number: 0,
+        wanted,
+        width: 0,
+        weight: 0,
+    };
+    Seat::new(row, cell)
+}
+
+impl Seats {
+    // The stretch of a row's seats.
+    pub(crate) fn stretch_of(&self, row: Row) -> Stretch
+        ensures { Spanned row self.now.items.items result }
+    {
+        Stretch {
+            start: self.place(&key(row, 0)),
+            end: self.place(&key(row, 65_536)),
+        }
+    }
+
+    // The seats of a row, in wanted order.
+    pub(crate) fn on(&self, row: Row) -> &[Seat]
+        ensures seats { result.now ≡ seats_on row self.now.items.items }
+        ensures ordered { Ordered seat_ahead result.now }
+        ensures sited { AllByRecursion Sited result.now }
+        ensures few { length result.now ≤ 1024 }
+        ensures within { length result.now ≤ length self.now.items.items }
+    {
+        let stretch = self.stretch_of(row);
+        &self.items[stretch.start..stretch.end]
+    }
+
+    // What the sites of a row cost.
+    pub(crate) fn row_cost<M: Measure>(&self, measure: &M, row: Row) -> u64
+        ensures value { result ≡ row_cost (M.price measure.now) row self.now.items.items }
+        ensures bound { result ≤ 2 ^ 52 }
+    {
+        let seats = self.on(row);
+        let mut sum: u64 = 0;
+        for seat in seats {
+            sum += measure.price_at(
+                seat.cell.wanted.site as u16,
+                seat.cell.weight as u16,
+                seat.site as u16,
+            );
+        }
+        sum
+    }
+
+    // Whether a row has sites for a cell beside the cells that stand there.
+    pub(crate) fn has_sites(&self, row: &Row, cell: &Cell) -> bool
+        requires { row.now.left ≤ row.now.right }
+        ensures { result ≡ has_sites self.now.items.items cell.now row.now }
+    {
+        let seats = self.on(*row);
+        let taken: u64 = seats.iter().map(|seat| seat.cell.width as u64).sum();
+        taken + cell.width as u64 <= (row.right - row.left) as u64
+    }
+}
