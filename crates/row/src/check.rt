@@ -108,7 +108,7 @@ fn widths_of(cells: &[Cell]) -> u64
     requires few { length cells.now ≤ 1024 }
     ensures { result ≡ widths cells.now }
 {
-    cells.iter().map(|cell| cell.width as u64).sum()
+    cells.iter().map(|cell| u64::from(cell.width)).sum()
 }
 
 // Refuses what `set` refuses: a row, cells and a number of sites.
@@ -120,7 +120,7 @@ pub(crate) fn check(row: Row, cells: &[Cell], sites: usize) -> Result<(), Refusa
         return Err(Refusal::Size);
     }
     check_cells(cells)?;
-    if widths_of(cells) > (row.right - row.left) as u64 {
+    if widths_of(cells) > u64::from(row.right - row.left) {
         return Err(Refusal::TooWide);
     }
     Ok(())

@@ -13,14 +13,14 @@ pub use setting::set;
 pub(crate) const MOST_CELLS: usize = 1_024;
 
 // A site on a line.
-#[derive(Clone, Copy, PartialEq, Eq, Debug)]
+#[derive(Clone, Copy, PartialEq, Eq, Debug, Default)]
 pub struct Spot {
     pub line: u32,
     pub site: u32,
 }
 
 // A cell: its number, where it is wanted, how many sites it covers, and how much its moves weigh.
-#[derive(Clone, Copy, PartialEq, Eq, Debug)]
+#[derive(Clone, Copy, PartialEq, Eq, Debug, Default)]
 pub struct Cell {
     pub number: u32,
     pub wanted: Spot,

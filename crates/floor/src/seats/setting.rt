@@ -8,7 +8,7 @@ ghost use Rattle.floor.specs.Refusals.{stands};
 ghost use Rattle.floor.specs.Seats.{moved_all, cells_on, joined, settled};
 
 use crate::Seat;
-use crate::cells::RowCells;
+use crate::cells::{RowCells, push_cells};
 use crate::seats::Seats;
 use measure::Measure;
 use row::{Cell, Row, set};
@@ -38,15 +38,15 @@ impl Seats {
     // Adds the cells of a row with one cell more, in wanted order.
     pub(crate) fn gather_with(&self, row: Row, cell: Cell, cells: &mut RowCells)
         requires few { length self.now.items.items < 1024 }
-        requires empty { cells.old ≡ [] }
-        ensures { cells.new ≡ cells_on row (joined row cell self.now.items.items) }
+        requires empty { cells.old.items ≡ [] }
+        ensures { cells.new.items ≡ cells_on row (joined row cell self.now.items.items) }
     {
         let seats = self.on(row);
         let at = place_of(seats, &Seat::new(row, cell));
         let (before, behind) = seats.split_at(at);
-        cells.push_all(before);
+        push_cells(cells, before);
         cells.push(cell);
-        cells.push_all(behind);
+        push_cells(cells, behind);
     }
 
     // Sets a row: only the sites of its own seats are rewritten.
@@ -56,7 +56,7 @@ impl Seats {
     {
         let stretch = self.stretch_of(row);
         let mut cells = RowCells::new();
-        cells.push_all(&self.items[stretch.start..stretch.end]);
+        push_cells(&mut cells, &self.items[stretch.start..stretch.end]);
         let cells = cells.as_slice();
         let mut sites = [0; 1_024];
         let sites = &mut sites[0..cells.len()];

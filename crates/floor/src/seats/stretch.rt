@@ -1,8 +1,9 @@
 // The seats of one row: where they are in the table, how wide they are, and what their sites cost.
 ghost use Rattle.std.specs.Prelude.{◌≡◌, ◌^◌, ◌≤◌, length};
 ghost use Rattle.std.specs.List.{AllByRecursion};
+ghost use Rattle.row.specs.Records.{widths};
 ghost use Rattle.floor.specs.Refusals.{has_sites};
-ghost use Rattle.floor.specs.Seats.{Sited, row_key, row_cost, seat_ahead, seats_on};
+ghost use Rattle.floor.specs.Seats.{Sited, cells_on, row_key, row_cost, seat_ahead, seats_on};
 ghost use Rattle.floor.specs.Spans.{Spanned};
 ghost use Rattle.table.specs.Order.{Ordered};
 
@@ -72,13 +73,20 @@ impl Seats {
         sum
     }
 
+    // How many sites the cells of a row cover.
+    fn covered(&self, row: Row) -> u64
+        ensures value { result ≡ widths (cells_on row self.now.items.items) }
+        ensures bound { result ≤ 2 ^ 42 }
+    {
+        let seats = self.on(row);
+        seats.iter().map(|seat| u64::from(seat.cell.width)).sum()
+    }
+
     // Whether a row has sites for a cell beside the cells that stand there.
     pub(crate) fn has_sites(&self, row: &Row, cell: &Cell) -> bool
         requires { row.now.left ≤ row.now.right }
         ensures { result ≡ has_sites self.now.items.items cell.now row.now }
     {
-        let seats = self.on(*row);
-        let taken: u64 = seats.iter().map(|seat| seat.cell.width as u64).sum();
-        taken + cell.width as u64 <= (row.right - row.left) as u64
+        self.covered(*row) + u64::from(cell.width) <= u64::from(row.right - row.left)
     }
 }

@@ -1,6 +1,0 @@
-use Rattle.std.proofs.Common.{◌≡◌, ◌++◌, map, take}
-use Rattle.floor.specs.Seats.{cell_of}
-use Rattle.floor.proofs.cells.RowCells.push_all.Given as goal
-
-abbrev pub invariant-loop-seat : goal.invariant-loop-seat
-invariant-loop-seat l = l.self ≡ l.initial.self ++ map cell_of (take l.seat-index l.seats)
