@@ -5,7 +5,7 @@
 #![tactic(auto)]
 
 use anyhow::anyhow;
-use measure::{Plain, Squared};
+use measure::MeasureName;
 use row::{Cell, Refusal, Row, Spot, set};
 use std::alloc::{AllocError, Global};
 use std::io::{BufRead, BufReader};
@@ -13,6 +13,7 @@ use std::io::{BufRead, BufReader};
 // What the buffer holds before a call.
 const UNTOUCHED: u32 = 77;
 
+// The numbers of a line.
 fn numbers(heap: Global, line: &str) -> anyhow::Result<Vec<u32>> {
     let mut all = Vec::new(heap);
     for word in line.split_whitespace() {
@@ -23,69 +24,54 @@ fn numbers(heap: Global, line: &str) -> anyhow::Result<Vec<u32>> {
 
 // The cells of a line's numbers, five a cell.
 fn cells_of(heap: Global, fields: &[u32]) -> Result<Vec<Cell>, AllocError> {
-    let mut cells = Vec::new(heap);
-    for k in 0..fields.len() / 5 {
-        let at = 5 * k;
-        let wanted = Spot {
-            site: fields[at + 1],
-            line: fields[at + 2],
-        };
-        cells.push(Cell {
-            number: fields[at],
-            wanted,
-            width: fields[at + 3],
-            weight: fields[at + 4],
-        })?;
-    }
-    Ok(cells)
-}
-
-// Whether all sites are as they were before the call.
-fn untouched(sites: &[u32]) -> bool {
-    for site in sites {
-        if *site != UNTOUCHED {
-            return false;
-        }
-    }
-    true
+    let (cells, _) = fields.as_chunks::<5>();
+    cells
+        .iter()
+        .map(|&[number, site, line, width, weight]| Cell {
+            number,
+            wanted: Spot { site, line },
+            width,
+            weight,
+        })
+        .collect(heap)
 }
 
 // One line of the result: the cost and the sites, or the refusal.
 fn shown(heap: Global, answer: Result<u64, Refusal>, sites: &[u32]) -> Result<String, AllocError> {
-    match answer {
-        Ok(cost) => {
-            let mut text = format!(in heap; "{cost}")?;
-            for site in sites {
-                let word = format!(in heap; " {site}")?;
-                text.push_str(word.as_str())?;
-            }
-            Ok(text)
-        }
+    let cost = match answer {
+        Ok(cost) => cost,
         Err(refusal) => {
             let number = refusal.number();
-            let kept = untouched(sites);
-            format!(in heap; "no {number} {kept}")
+            let kept = sites.iter().all(|site| *site == UNTOUCHED);
+            return format!(in heap; "no {number} {kept}");
         }
+    };
+    let mut text = format!(in heap; "{cost}")?;
+    for site in sites {
+        write!(text, " {site}")?;
     }
+    Ok(text)
 }
 
+// What `set` makes of one line.
 fn run(heap: Global, line: &str) -> anyhow::Result<String> {
     let all = numbers(heap, line)?;
-    if all.len() < 5 {
+    let [measure, line, left, right, length, fields @ ..] = all.as_slice() else {
         return Err(anyhow!("a line has too few numbers"));
-    }
-    let row = Row {
-        line: all[1],
-        left: all[2],
-        right: all[3],
     };
-    let mut sites = vec![in heap; UNTOUCHED; all[4] as usize]?;
-    let cells = cells_of(heap, &all.as_slice()[5..])?;
-    let answer = if all[0] == 0 {
-        set(&Squared, row, &cells, &mut sites)
+    let measure = if *measure == 0 {
+        MeasureName::Squared
     } else {
-        set(&Plain, row, &cells, &mut sites)
+        MeasureName::Plain
     };
+    let row = Row {
+        line: *line,
+        left: *left,
+        right: *right,
+    };
+    let cells = cells_of(heap, fields)?;
+    let mut sites = vec![in heap; UNTOUCHED; *length as usize]?;
+    let answer = set(&measure, row, &cells, &mut sites);
     Ok(shown(heap, answer, &sites)?)
 }
 
