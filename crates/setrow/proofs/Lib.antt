@@ -1,5 +1,5 @@
 pub mod Digits
-pub mod Fields
-pub mod Listed
+pub mod Numbered
 pub mod Parted
 pub mod Printed
+pub mod Yielded

@@ -2,25 +2,23 @@
 --
 -- name_of form               the first word of a line of this form
 -- behind_name form words     the words behind the first one, which is to be the form's name
--- Behind form line r         r is what stands in the line behind the form's name, or why that name is not there
--- kind_named word            the measure of this name
--- only_kind words            the measure that the words name, of which there is to be one
+-- measure_named word         the measure of this name
+-- only_measure words         the measure that the words name, of which there is to be one
 -- row_from, cell_from ns     the row and the cell of these numbers, in the order of the line
 -- measure_of, row_of, cell_of words    the measure, the row, the cell that a line gives, or why it gives none
-use Rattle.std.specs.Prelude.{◌≡◌, ℕ, cond, List, [], ◌∷◌, Ok, Err, codes, Result, MatchResult, slice_index}
-use Rattle.std.specs.Borrow.{Bor}
+use Rattle.std.specs.Prelude.{ℕ, cond, List, [], ◌∷◌, Ok, Err, codes, Result, slice_index}
 use Rattle.std.specs.Str.{bytes_eq}
+use Rattle.measure.specs.Names.{word}
+use Rattle.measure.specs.declared.name.MeasureName.{MeasureName}
+use Rattle.measure.specs.declared.name.MeasureName.TheVariants.{Squared, Plain}
 use Rattle.row.specs.declared.Cell.{Cell}
 use Rattle.row.specs.declared.Row.{Row}
 use Rattle.setrow.specs.declared.task.Form.{Form}
 use Rattle.setrow.specs.declared.task.Form.TheVariants as form
-use Rattle.setrow.specs.declared.task.Kind.{Kind}
-use Rattle.setrow.specs.declared.task.Kind.TheVariants.{Squared, Plain}
 use Rattle.setrow.specs.declared.task.Reason.{Reason}
 use Rattle.setrow.specs.declared.task.Reason.TheVariants.{Expected, TooFewWords, TooManyWords, NoSuchMeasure}
 use Rattle.setrow.specs.Numbers.{numbers_of}
 use Rattle.setrow.specs.Steps.{then}
-use Rattle.setrow.specs.Text.{words}
 
 abbrev pub name_of : Form → List ℕ
 name_of form.Measure = codes "measure"
@@ -31,17 +29,13 @@ abbrev pub behind_name : Form → List (List ℕ) → Result (List (List ℕ)) R
 behind_name form [] = Err (Expected form)
 behind_name form (w ∷ ws) = cond (bytes_eq w (name_of form)) (Ok ws) (Err (Expected form))
 
-abbrev pub Behind : Form → List ℕ → Result (Bor (List ℕ)) Reason → Type 0
-Behind form line r =
-    MatchResult r (λ rest. behind_name form (words line) ≡ Ok (words rest.now)) (λ why. behind_name form (words line) ≡ Err why)
+abbrev pub measure_named : List ℕ → Result MeasureName Reason
+measure_named w = cond (bytes_eq w (word Squared)) (Ok Squared) (cond (bytes_eq w (word Plain)) (Ok Plain) (Err NoSuchMeasure))
 
-abbrev pub kind_named : List ℕ → Result Kind Reason
-kind_named w = cond (bytes_eq w (codes "squared")) (Ok Squared) (cond (bytes_eq w (codes "plain")) (Ok Plain) (Err NoSuchMeasure))
-
-abbrev pub only_kind : List (List ℕ) → Result Kind Reason
-only_kind [] = Err (TooFewWords form.Measure)
-only_kind (w ∷ []) = kind_named w
-only_kind (w ∷ v ∷ ws) = then (kind_named w) (λ _. Err (TooManyWords form.Measure))
+abbrev pub only_measure : List (List ℕ) → Result MeasureName Reason
+only_measure [] = Err (TooFewWords form.Measure)
+only_measure (w ∷ []) = measure_named w
+only_measure (w ∷ v ∷ ws) = then (measure_named w) (λ _. Err (TooManyWords form.Measure))
 
 abbrev pub row_from : List ℕ → Row
 row_from ns = record { line = slice_index ns 0; left = slice_index ns 1; right = slice_index ns 2 }
@@ -54,8 +48,8 @@ cell_from ns = record {
   weight = slice_index ns 4;
 }
 
-abbrev pub measure_of : List (List ℕ) → Result Kind Reason
-measure_of ws = then (behind_name form.Measure ws) only_kind
+abbrev pub measure_of : List (List ℕ) → Result MeasureName Reason
+measure_of ws = then (behind_name form.Measure ws) only_measure
 
 abbrev pub row_of : List (List ℕ) → Result Row Reason
 row_of ws = then (behind_name form.Row ws) (λ rest. then (numbers_of form.Row 3 rest) (λ ns. Ok (row_from ns)))

@@ -1,8 +1,9 @@
-pub mod Cuts
+pub mod Fields
 pub mod Forms
 pub mod Lines
 pub mod Messages
 pub mod Numbers
+pub mod Parts
 pub mod Reading
 pub mod Shown
 pub mod Steps

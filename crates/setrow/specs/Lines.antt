@@ -9,10 +9,12 @@
 -- left lines                 those of the lines still to be read that count
 -- end lines                  the number of the line after the last of them
 -- Next before after entry    the entry and then the lines left after it are the lines that were left before
--- Gives before after r       r is the next line that counts; or none is left, and r is the number of the line after the last
-use Rattle.std.specs.Prelude.{◌≡◌, ℕ, ◌+◌, ◌<◌, Bool, false, cond, not, List, [], ◌∷◌, length, Result, MatchResult, ◌==◌}
+-- Last before after          none was left before, and now all lines are read
+-- Gives before r after       r is the next line that counts, or none is left
+use Rattle.std.specs.Prelude.{◌≡◌, ℕ, ◌+◌, Bool, false, cond, not, List, [], ◌∷◌, length, Option, MatchOption, ◌==◌}
 use Rattle.setrow.specs.declared.lines.Entry.{Entry}
 use Rattle.setrow.specs.declared.lines.Lines.{Lines}
+use Rattle.setrow.specs.Parts.{parts_left}
 use Rattle.setrow.specs.Text.{lines, words}
 
 abbrev pub comment : List ℕ → Bool
@@ -38,15 +40,19 @@ abbrev pub end_of : List ℕ → ℕ
 end_of text = length (lines text) + 1
 
 abbrev pub left : Lines → List Counted
-left ls = counted ls.read (lines ls.rest.now)
+left ls = counted ls.read (parts_left ls.lines)
 
 abbrev pub end : Lines → ℕ
-end ls = ls.read + end_of ls.rest.now
+end ls = ls.read + (length (parts_left ls.lines) + 1)
 
 pub record Next (before after : Lines) (e : Entry) : Type 0 where
   pub first : left before ≡ seen e ∷ left after
   pub same_end : end after ≡ end before
-  pub shorter : length after.rest.now < length before.rest.now
 
-abbrev pub Gives : Lines → Lines → Result Entry ℕ → Type 0
-Gives before after r = MatchResult r (Next before after) (λ n. (left before ≡ []) × (n ≡ end before))
+pub record Last (before after : Lines) : Type 0 where
+  pub none : left before ≡ []
+  pub still_none : left after ≡ []
+  pub all_read : after.read + 1 ≡ end before
+
+abbrev pub Gives : Lines → Option Entry → Lines → Type 0
+Gives before r after = MatchOption r (Last before after) (Next before after)

@@ -24,13 +24,13 @@
 -- Answers view told r            r is what was told, or there was no memory
 -- Continues form before after r  r is the next line that counts, or that the text ends before it
 use Rattle.std.specs.Prelude.{◌≡◌, ℕ, List, [], ◌∷◌, Ok, Err, vec_items, Result, MatchResult}
+use Rattle.measure.specs.declared.name.MeasureName.{MeasureName}
 use Rattle.row.specs.declared.Cell.{Cell}
 use Rattle.row.specs.declared.Row.{Row}
 use Rattle.setrow.specs.declared.lines.Entry.{Entry}
 use Rattle.setrow.specs.declared.lines.Lines.{Lines}
 use Rattle.setrow.specs.declared.task.Form.{Form}
 use Rattle.setrow.specs.declared.task.Form.TheVariants as form
-use Rattle.setrow.specs.declared.task.Kind.{Kind}
 use Rattle.setrow.specs.declared.task.NoTask.{NoTask}
 use Rattle.setrow.specs.declared.task.NoTask.TheVariants.{NoMemory, Unreadable as unreadable}
 use Rattle.setrow.specs.declared.task.Reason.{Reason}
@@ -43,7 +43,7 @@ use Rattle.setrow.specs.Steps.{then}
 use Rattle.setrow.specs.Text.{lines}
 
 pub record Given : Type 0 where
-  pub measure : Kind
+  pub measure : MeasureName
   pub row : Row
   pub cells : List Cell
 

@@ -4,20 +4,18 @@
 -- cell_lines cells sites      a line for each cell
 -- Adds bytes before after r   the bytes are added to the text, or there was no memory
 -- shown cells sites answer    a line for each cell and then the cost; or the number of the refusal alone
--- price_of measure            the formula of a measure
 -- said_in measure row cells buffer   what is printed where `set` is lent this buffer: the row's sites and their cost, or the refusal
 -- said measure row cells      what is printed of a task: the buffer has a site for each cell
 use Rattle.std.specs.Prelude.{◌≡◌, ℕ, List, [], ◌∷◌, ◌++◌, length, replicate, Ok, Err, string_bytes, codes, decimal, Result, String, OnOk}
 use Rattle.std.specs.declared.alloc.AllocError.{AllocError}
 use Rattle.std.specs.declared.alloc.Global.{Global}
-use Rattle.measure.specs.Measures.{squared, plain}
+use Rattle.measure.specs.Names.{named_price}
+use Rattle.measure.specs.declared.name.MeasureName.{MeasureName}
 use Rattle.row.specs.Refusals.{number_of}
 use Rattle.row.specs.Task.{set_answer, set_sites}
 use Rattle.row.specs.declared.Cell.{Cell}
 use Rattle.row.specs.declared.Refusal.{Refusal}
 use Rattle.row.specs.declared.Row.{Row}
-use Rattle.setrow.specs.declared.task.Kind.{Kind}
-use Rattle.setrow.specs.declared.task.Kind.TheVariants.{Squared, Plain}
 
 abbrev pub cell_line : Cell → ℕ → List ℕ
 cell_line cell site = decimal cell.number ++ (codes " " ++ (decimal site ++ codes "\n"))
@@ -34,12 +32,8 @@ abbrev pub shown : List Cell → List ℕ → Result ℕ Refusal → List ℕ
 shown cells sites (Ok cost) = cell_lines cells sites ++ (codes "cost " ++ (decimal cost ++ codes "\n"))
 shown cells sites (Err refusal) = codes "refused " ++ (decimal (number_of refusal) ++ codes "\n")
 
-abbrev pub price_of : Kind → ℕ → ℕ → ℕ → ℕ
-price_of Squared = squared
-price_of Plain = plain
+abbrev pub said_in : MeasureName → Row → List Cell → List ℕ → List ℕ
+said_in measure row cells buffer = shown cells (set_sites (named_price measure) row cells buffer) (set_answer (named_price measure) row cells buffer)
 
-abbrev pub said_in : Kind → Row → List Cell → List ℕ → List ℕ
-said_in measure row cells buffer = shown cells (set_sites (price_of measure) row cells buffer) (set_answer (price_of measure) row cells buffer)
-
-abbrev pub said : Kind → Row → List Cell → List ℕ
+abbrev pub said : MeasureName → Row → List Cell → List ℕ
 said measure row cells = said_in measure row cells (replicate (length cells) 0)

@@ -1,33 +1,22 @@
 -- How a text falls into lines, and a line into words.
 --
 -- among marks b     whether b is one of the marks
--- unlike marks b    whether it is none of them
--- onto b parts      the parts, with b in front of the first one
 -- parts marks bs    the parts of bs: each mark ends one, and the last may lack its mark
 -- filled parts      those of the parts that are not empty
 -- lines text        the parts that end with the byte 10, the line end
 -- words line        the filled parts between blanks: spaces, tabs and carriage returns
-use Rattle.std.specs.Prelude.{ℕ, Bool, false, cond, not, ◌||◌, List, [], ◌∷◌, codes, ◌==◌}
+use Rattle.std.specs.Prelude.{ℕ, Bool, cond, not, List, [], ◌∷◌, length, codes, ◌==◌}
+use Rattle.std.specs.List.{filter, list_any, onto_first}
 
 abbrev pub among : List ℕ → ℕ → Bool
-among [] b = false
-among (m ∷ ms) b = m == b || among ms b
-
-abbrev pub unlike : List ℕ → ℕ → Bool
-unlike marks b = not (among marks b)
-
-abbrev pub onto : ℕ → List (List ℕ) → List (List ℕ)
-onto b [] = (b ∷ []) ∷ []
-onto b (part ∷ parts) = (b ∷ part) ∷ parts
+among marks b = list_any (λ m. m == b) marks
 
 abbrev pub parts : List ℕ → List ℕ → List (List ℕ)
 parts marks [] = []
-parts marks (b ∷ bs) = cond (among marks b) ([] ∷ parts marks bs) (onto b (parts marks bs))
+parts marks (b ∷ bs) = cond (among marks b) ([] ∷ parts marks bs) (onto_first b (parts marks bs))
 
 abbrev pub filled : List (List ℕ) → List (List ℕ)
-filled [] = []
-filled ([] ∷ ps) = filled ps
-filled ((b ∷ bs) ∷ ps) = (b ∷ bs) ∷ filled ps
+filled parts = filter (λ part. not (length part == 0)) parts
 
 abbrev pub lines : List ℕ → List (List ℕ)
 lines text = parts (codes "\n") text

@@ -1,7 +1,10 @@
 // The lines of a text that count: those that have a word and are no comment.
 ghost use Rattle.std.specs.Prelude.{◌+◌, ◌^◌, ◌<◌, length};
+ghost use Rattle.setrow.specs.Parts.{parts_left};
 
 mod walk;
+
+use crate::parts::Parts;
 
 // A line and its number, from 1.
 #[derive(Clone, Copy)]
@@ -10,10 +13,10 @@ pub(crate) struct Entry<'a> {
     pub(crate) line: &'a [u8],
 }
 
-// What is left of a text, and how many of its lines were read.
+// The lines that are left of a text, and how many were read.
 #[derive(Drop)]
 pub(crate) struct Lines<'a> {
-    rest: &'a [u8],
+    lines: Parts<'a>,
     read: u64,
-    ghost fits: { read + length rest.now + 1 < 2 ^ 64 },
+    ghost fits: { read + length (parts_left lines) + 1 < 2 ^ 64 },
 }

@@ -2,6 +2,7 @@
 #![tactic(auto)]
 
 mod answer;
+mod fields;
 mod forms;
 mod lines;
 mod messages;

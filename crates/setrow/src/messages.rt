@@ -1,8 +1,8 @@
-// What is said of a line that cannot be read.
+// What is said of a line that cannot be read. The impls are written out, since what the crate `thiserror` derives has no `ghost output`.
 ghost use Rattle.std.specs.Prelude.{Some};
 ghost use Rattle.setrow.specs.Messages.{usage, message, complaint};
 
-use crate::task::{Form, NoTask, Reason};
+use crate::task::{Form, NoTask, Reason, Unreadable};
 use std::error::Error;
 use std::fmt;
 
@@ -11,11 +11,11 @@ impl fmt::Display for Form {
     ghost output = { λ form. Some (usage form) };
 
     fn fmt<W: fmt::Write>(&self, f: &mut fmt::Formatter<W>) -> fmt::Result {
-        match self {
-            Form::Measure => write!(f, "`measure squared` or `measure plain`"),
-            Form::Row => write!(f, "`row LINE LEFT RIGHT`"),
-            Form::Cell => write!(f, "`cell NUMBER SITE LINE WIDTH WEIGHT`"),
-        }
+        f.write_str(match self {
+            Form::Measure => "`measure squared` or `measure plain`",
+            Form::Row => "`row LINE LEFT RIGHT`",
+            Form::Cell => "`cell NUMBER SITE LINE WIDTH WEIGHT`",
+        })
     }
 }
 
@@ -29,9 +29,9 @@ impl fmt::Display for Reason {
             Reason::Expected(form) => write!(f, "expected {form}"),
             Reason::TooFewWords(form) => write!(f, "too few words for {form}"),
             Reason::TooManyWords(form) => write!(f, "too many words for {form}"),
-            Reason::NoSuchMeasure => write!(f, "a measure is `squared` or `plain`"),
-            Reason::NotNumber => write!(f, "a number is written in decimal digits alone"),
-            Reason::TooLarge => write!(f, "a number is at most 4294967295"),
+            Reason::NoSuchMeasure => f.write_str("a measure is `squared` or `plain`"),
+            Reason::NotNumber => f.write_str("a number is written in decimal digits alone"),
+            Reason::TooLarge => f.write_str("a number is at most 4294967295"),
         }
     }
 }
@@ -42,12 +42,8 @@ impl fmt::Display for NoTask {
 
     fn fmt<W: fmt::Write>(&self, f: &mut fmt::Formatter<W>) -> fmt::Result {
         match self {
-            NoTask::Unreadable(why) => {
-                let line = why.line;
-                let reason = why.reason;
-                write!(f, "line {line}: {reason}")
-            }
-            NoTask::NoMemory => write!(f, "no memory for the cells"),
+            NoTask::Unreadable(Unreadable { line, reason }) => write!(f, "line {line}: {reason}"),
+            NoTask::NoMemory => f.write_str("no memory for the cells"),
         }
     }
 }

@@ -1,76 +1,82 @@
 // How bytes fall into parts: a text into lines, a line into words.
-ghost use Rattle.std.specs.Prelude.{◌≡◌, drop};
-ghost use Rattle.std.specs.List.{prefix_len};
-ghost use Rattle.setrow.specs.Cuts.{Cuts};
-ghost use Rattle.setrow.specs.Text.{among, unlike, parts, lines, words};
+ghost use Rattle.std.specs.Prelude.{◌≡◌};
+ghost use Rattle.std.specs.Iterator.{YieldsFirstRef, item_count};
+ghost use Rattle.std.specs.List.{before_first, after_first};
+ghost use Rattle.setrow.specs.Parts.{parts_left, words_left};
+ghost use Rattle.setrow.specs.Text.{among, lines, words};
 
-// A part of some bytes, and the bytes after it.
-#[derive(Clone, Copy)]
-pub(crate) struct Cut<'a> {
-    pub(crate) part: &'a [u8],
-    pub(crate) rest: &'a [u8],
+// What stands before the first mark, and what stands behind it; all and nothing where there is no mark.
+fn cut_at_mark<'a>(bytes: &'a [u8], marks: &[u8]) -> (&'a [u8], &'a [u8])
+    ensures before { result.0.now ≡ before_first (among marks.now) bytes.now }
+    ensures after { result.1.now ≡ after_first (among marks.now) bytes.now }
+{
+    match bytes.iter().position(|byte| marks.contains(byte)) {
+        Some(mark) => (&bytes[..mark], &bytes[mark + 1..]),
+        None => (bytes, &[]),
+    }
 }
 
-// Whether `byte` is one of `marks`.
-fn is_among(byte: u8, marks: &[u8]) -> bool
-    ensures { result ≡ among marks.now byte }
-{
-    marks.contains(&byte)
+// The parts of the bytes that are left, each of which ends with one of the marks.
+// Not the library's `split`, which is no plainer here: a struct cannot name its closure's type, and a last mark gives it one part more.
+#[derive(Drop)]
+pub(crate) struct Parts<'a> {
+    rest: &'a [u8],
+    marks: &'static [u8],
 }
 
-// How many bytes stand before the first mark; all of them where there is none.
-fn length_before(bytes: &[u8], marks: &[u8]) -> usize
-    ensures { result ≡ prefix_len (unlike marks.now) bytes.now }
-{
-    for (i, byte) in bytes.iter().enumerate() {
-        if is_among(*byte, marks) {
-            return i;
+impl<'a> Parts<'a> {
+    // The lines of a text.
+    pub(crate) fn lines(text: &'a [u8]) -> Parts<'a>
+        ensures { parts_left result ≡ lines text.now }
+    {
+        Parts {
+            rest: text,
+            marks: b"\n",
         }
     }
-    bytes.len()
 }
 
-// The bytes after the first one; none of no bytes.
-fn after_first(bytes: &[u8]) -> &[u8]
-    ensures { result.now ≡ drop 1 bytes.now }
-{
-    match bytes {
-        [_, rest @ ..] => rest,
-        [] => bytes,
-    }
-}
+impl<'a> Iterator for Parts<'a> {
+    type Item = &'a [u8];
 
-// The first part of `bytes`, where each part ends with one of `marks`; none of no bytes.
-fn first_part<'a>(bytes: &'a [u8], marks: &[u8]) -> Option<Cut<'a>>
-    ensures { Cuts (parts marks.now) bytes.now result }
-{
-    if bytes.is_empty() {
-        return None;
-    }
-    let (part, ended) = bytes.split_at(length_before(bytes, marks));
-    Some(Cut {
-        part,
-        rest: after_first(ended),
-    })
-}
+    ghost next_gives = { YieldsFirstRef parts_left };
 
-// The first line of a text; none of no bytes.
-pub(crate) fn first_line(text: &[u8]) -> Option<Cut<'_>>
-    ensures { Cuts lines text.now result }
-{
-    first_part(text, b"\n")
-}
+    ghost remaining = { item_count parts_left };
 
-// The first word of a line; none where there are only blanks.
-pub(crate) fn first_word(line: &[u8]) -> Option<Cut<'_>>
-    ensures { Cuts words line.now result }
-{
-    let mut rest = line;
-    while let Some(cut) = first_part(rest, b" \t\r") {
-        if !cut.part.is_empty() {
-            return Some(cut);
+    fn next(&mut self) -> Option<&'a [u8]> {
+        if self.rest.is_empty() {
+            return None;
         }
-        rest = cut.rest;
+        let (part, rest) = cut_at_mark(self.rest, self.marks);
+        self.rest = rest;
+        Some(part)
     }
-    None
+}
+
+// The words of what is left of a line.
+#[derive(Drop)]
+pub(crate) struct Words<'a>(Parts<'a>);
+
+impl<'a> Words<'a> {
+    // The words of a line.
+    pub(crate) fn of(line: &'a [u8]) -> Words<'a>
+        ensures { words_left result ≡ words line.now }
+    {
+        Words(Parts {
+            rest: line,
+            marks: b" \t\r",
+        })
+    }
+}
+
+impl<'a> Iterator for Words<'a> {
+    type Item = &'a [u8];
+
+    ghost next_gives = { YieldsFirstRef words_left };
+
+    ghost remaining = { item_count words_left };
+
+    fn next(&mut self) -> Option<&'a [u8]> {
+        self.0.find(|part| !part.is_empty())
+    }
 }

@@ -13,31 +13,25 @@ use std::alloc::Global;
 fn at_line<T>(line: u64, read: Result<T, Reason>) -> Result<T, Unreadable>
     ensures { result ≡ at_line line read }
 {
-    match read {
-        Ok(value) => Ok(value),
-        Err(reason) => Err(Unreadable { line, reason }),
-    }
+    read.map_err(|reason| Unreadable { line, reason })
 }
 
 // The next line that counts, which is to be there and of this form.
 fn next_line<'a>(lines: &mut Lines<'a>, form: Form) -> Result<Entry<'a>, Unreadable>
     ensures { Continues form lines.old lines.new result }
 {
-    match lines.next() {
-        Ok(entry) => Ok(entry),
-        Err(line) => Err(Unreadable {
-            line,
-            reason: Reason::Missing(form),
-        }),
-    }
+    lines.next().ok_or(Unreadable {
+        line: lines.next_number(),
+        reason: Reason::Missing(form),
+    })
 }
 
 // The cells of the lines that are left, one to a line.
-fn read_cells(heap: Global, mut lines: Lines<'_>) -> Result<Vec<Cell>, NoTask>
+fn read_cells(heap: Global, lines: Lines<'_>) -> Result<Vec<Cell>, NoTask>
     ensures { Answers vec_items (cells_of (left lines.entry)) result }
 {
     let mut cells = Vec::new(heap);
-    while let Ok(entry) = lines.next() {
+    for entry in lines {
         cells.push(at_line(entry.number, read_cell(entry.line))?)?;
     }
     Ok(cells)

@@ -1,27 +1,17 @@
 // What is printed of an answer.
 ghost use Rattle.std.specs.Prelude.{◌≡◌, IfOk, string_bytes};
-ghost use Rattle.setrow.specs.Shown.{cell_line, cell_lines, Adds, shown as shown_as};
+ghost use Rattle.setrow.specs.Shown.{cell_lines, Adds, shown as shown_as};
 
 use row::{Cell, Refusal};
 use std::alloc::{AllocError, Global};
-
-// Adds the line of one cell.
-fn put_cell(text: &mut String, cell: Cell, site: u32) -> Result<(), AllocError>
-    ensures { Adds (cell_line cell site) text.old text.new result }
-{
-    let number = cell.number;
-    match writeln!(text, "{number} {site}") {
-        Ok(()) => Ok(()),
-        Err(_) => Err(AllocError),
-    }
-}
 
 // Adds a line for each cell.
 fn put_cells(text: &mut String, cells: &[Cell], sites: &[u32]) -> Result<(), AllocError>
     ensures { Adds (cell_lines cells.now sites.now) text.old text.new result }
 {
-    for (cell, site) in cells.iter().zip(sites.iter()) {
-        put_cell(text, *cell, *site)?;
+    for (cell, site) in cells.iter().zip(sites) {
+        let number = cell.number;
+        writeln!(text, "{number} {site}")?;
     }
     Ok(())
 }
@@ -39,7 +29,7 @@ pub fn report(
         Ok(cost) => {
             let mut text = String::new(heap);
             put_cells(&mut text, cells, sites)?;
-            text.push_str(format!(in heap; "cost {cost}\n")?.as_str())?;
+            writeln!(text, "cost {cost}")?;
             Ok(text)
         }
         Err(refusal) => {

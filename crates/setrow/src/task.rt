@@ -2,20 +2,14 @@
 ghost use Rattle.std.specs.Prelude.{◌≡◌};
 ghost use Rattle.setrow.specs.declared.task.NoTask.TheVariants.{NoMemory, Unreadable as unreadable};
 
+use measure::MeasureName;
 use row::{Cell, Row};
 use std::alloc::AllocFailed;
-
-// The measure that prices a move.
-#[derive(Clone, Copy)]
-pub enum Kind {
-    Squared,
-    Plain,
-}
 
 // A row and the cells to set in it.
 #[derive(Drop)]
 pub struct Task {
-    pub measure: Kind,
+    pub measure: MeasureName,
     pub row: Row,
     pub cells: Vec<Cell>,
 }

@@ -1,22 +1,17 @@
 // How the lines of a text are found, one after another.
-ghost use Rattle.std.specs.Prelude.{◌≡◌};
+ghost use Rattle.std.specs.Prelude.{◌≡◌, ◌+◌};
+ghost use Rattle.std.specs.Iterator.{item_count};
 ghost use Rattle.setrow.specs.Lines.{counts as does_count, counted, end_of, left, end, Gives};
 ghost use Rattle.setrow.specs.Text.{lines, words};
 
 use crate::lines::{Entry, Lines};
-use crate::parts::{first_line, first_word};
+use crate::parts::{Parts, Words};
 
 // Whether a line counts: it has a word, and the first one opens no comment.
 fn counts(line: &[u8]) -> bool
     ensures { result ≡ does_count (words line.now) }
 {
-    match first_word(line) {
-        Some(word) => match word.part {
-            [b'#', ..] => false,
-            _ => true,
-        },
-        None => false,
-    }
+    !matches!(Words::of(line).next(), None | Some([b'#', ..]))
 }
 
 impl<'a> Lines<'a> {
@@ -26,25 +21,36 @@ impl<'a> Lines<'a> {
         ensures end { end result ≡ end_of text.now }
     {
         Lines {
-            rest: text,
+            lines: Parts::lines(text),
             read: 0,
         }
     }
 
-    // The next line that counts; where none is left, the number of the line after the last.
-    pub(crate) fn next(&mut self) -> Result<Entry<'a>, u64>
-        ensures { Gives self.old self.new result }
+    // The number of the line after those that were read.
+    pub(crate) fn next_number(&self) -> u64
+        ensures { result ≡ self.now.read + 1 }
     {
-        while let Some(cut) = first_line(self.rest) {
-            self.rest = cut.rest;
+        self.read + 1
+    }
+}
+
+impl<'a> Iterator for Lines<'a> {
+    type Item = Entry<'a>;
+
+    ghost next_gives = { Gives };
+
+    ghost remaining = { item_count left };
+
+    fn next(&mut self) -> Option<Entry<'a>> {
+        while let Some(line) = self.lines.next() {
             self.read += 1;
-            if counts(cut.part) {
-                return Ok(Entry {
+            if counts(line) {
+                return Some(Entry {
                     number: self.read,
-                    line: cut.part,
+                    line,
                 });
             }
         }
-        Err(self.read + 1)
+        None
     }
 }

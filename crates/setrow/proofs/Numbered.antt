@@ -1,9 +1,9 @@
 -- The numbers of a line, one word after another.
-use Rattle.std.proofs.Common.{◌≡◌, ℕ, suc, ◌+◌, ◌-◌, ◌<◌, ◌≤◌, List, [], ◌∷◌, ◌++◌, length, take, set, Ok, Err, Result, sym, refl, ap, ◌∙◌, append_assoc, append-nil, arith}
-use Rattle.std.proofs.lemmas.List.{take_all, take_more_set, length-set}
+use Rattle.std.proofs.Common.{◌≡◌, ℕ, suc, ◌+◌, ◌-◌, ◌<◌, List, [], ◌∷◌, ◌++◌, length, take, set, Ok, Err, Result, sym, refl, ap, ◌∙◌, append_assoc, arith}
+use Rattle.std.proofs.lemmas.List.{take_more_set, length-set}
 use Rattle.setrow.specs.declared.task.Form.{Form}
 use Rattle.setrow.specs.declared.task.Reason.{Reason}
-use Rattle.setrow.specs.declared.task.Reason.TheVariants.{TooFewWords, TooManyWords}
+use Rattle.setrow.specs.declared.task.Reason.TheVariants.{TooFewWords}
 use Rattle.setrow.specs.Numbers.{number_of, numbers_of}
 use Rattle.setrow.specs.Steps.{then}
 
@@ -15,19 +15,10 @@ pub behind_more : {A E : Type 0} (values : List A) (v : A) (read : Result (List 
 behind_more values v (Ok more) = ap Ok (sym (append_assoc values (v ∷ []) more))
 behind_more values v (Err e) = refl
 
-pub behind_none : {A E : Type 0} (read : Result (List A) E) → behind [] read ≡ read
-behind_none (Ok more) = refl
-behind_none (Err e) = refl
-
 -- the first i of the numbers are read, and the others are still to come
 pub record Sofar (form : Form) (total : ℕ) (all : List (List ℕ)) (i : ℕ) (values : List ℕ) (rest : List (List ℕ)) : Type 0 where
   pub long : length values ≡ total
   pub reads : behind (take i values) (numbers_of form (total - i) rest) ≡ numbers_of form total all
-
-pub at_start : (form : Form) (total : ℕ) (all : List (List ℕ)) (values : List ℕ) → length values ≡ total → Sofar form total all 0 values all
-at_start form total all values long =
-    let none : total - 0 ≡ total = omega arith in
-    record { long = long; reads = behind_none _ ∙ ap (λ n. numbers_of form n all) none }
 
 module _ {form : Form} {total : ℕ} {all : List (List ℕ)} {i : ℕ} {values : List ℕ} {rest : List (List ℕ)} (sofar : Sofar form total all i values rest) where
   -- the same, where so many are to come and the words are written out
@@ -36,12 +27,6 @@ module _ {form : Form} {total : ℕ} {all : List (List ℕ)} {i : ℕ} {values :
 
   pub too_few : i < total → rest ≡ [] → Err (TooFewWords form) ≡ numbers_of form total all
   too_few more e = here (suc (total - (i + 1))) [] (omega arith) e
-
-  pub too_many : total ≤ i → (w : List ℕ) (ws : List (List ℕ)) → rest ≡ w ∷ ws → Err (TooManyWords form) ≡ numbers_of form total all
-  too_many full w ws e = here 0 (w ∷ ws) (omega arith) e
-
-  pub done : total ≤ i → rest ≡ [] → Ok values ≡ numbers_of form total all
-  done full e = ap Ok (sym (append-nil _ ∙ take_all i values (omega (arith, sofar.long)))) ∙ here 0 [] (omega arith) e
 
   pub unread : i < total → (w : List ℕ) (ws : List (List ℕ)) (why : Reason) → rest ≡ w ∷ ws → Err why ≡ number_of w → Err why ≡ numbers_of form total all
   unread more w ws why e bad =
