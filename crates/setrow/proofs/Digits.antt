@@ -8,14 +8,15 @@ use Rattle.std.specs.ControlFlow.{continue_value}
 use Rattle.std.specs.Fn.{Called}
 use Rattle.std.specs.Iterator.{AlwaysYields, TryFoldTurn, TryFoldsItems, Yields}
 use Rattle.std.specs.List.{FoldsTo, list_all}
+use Rattle.std.specs.Option.{ok_or}
 use Rattle.std.specs.Str.{all_ascii_digits}
 use Rattle.std.specs.declared.ops.ControlFlow.{ControlFlow}
 use Rattle.std.specs.declared.ops.ControlFlow.TheVariants.{Continue, Break}
 use denote.Param.Members.{Mut}
-use Rattle.std.specs.Option.{ok_or}
 use Rattle.setrow.specs.declared.task.Reason.TheVariants.{TooLarge}
 use Rattle.setrow.specs.Numbers.{and_digit, number_of, value_of}
 
+-- two words for one test
 pub all_digits : (word : List ℕ) → list_all is_ascii_digit word ≡ all_ascii_digits word
 all_digits = same_from_clauses (list_all is_ascii_digit) all_ascii_digits (λ b rest. is_ascii_digit b && rest) refl (λ _ _. refl) (λ _ _. refl)
 
@@ -24,7 +25,7 @@ value_grows : (v : ℕ) (digits : List ℕ) → v ≤ fold and_digit v digits
 value_grows v [] = omega arith
 value_grows v (d ∷ ds) = omega (arith, value_grows (and_digit v d) ds)
 
--- a number that fits
+-- the number, where it fits
 abbrev pub Fitting : Option ℕ → ℕ → Type 0
 Fitting r n = SomeIff r (n < 2 ^ 32) n
 

@@ -1,4 +1,4 @@
--- The first part of bytes is what stands before the first mark, and a line's first word the first part that is not empty.
+-- The first part of bytes is what stands before the first mark.
 use Rattle.std.proofs.Common.{◌≡◌, ℕ, ◌+◌, ◌<◌, ◌≤◌, true, false, cond, not, ltb, List, [], ◌∷◌, length, take, drop, Some, None, sym, refl, ap, subst, add-one, one-add, arith}
 use Rattle.std.specs.List.{position_or_len, before_first, after_first, onto_first}
 use Rattle.std.proofs.lemmas.Bool.Decides.{nat_tests}
@@ -21,9 +21,7 @@ first_is marks b (x ∷ xs) =
 
 pub first_cut : (marks bs : List ℕ) → 0 < length bs → parts marks bs ≡ before_first (among marks) bs ∷ parts marks (after_first (among marks) bs)
 first_cut marks [] some = absurd (omega arith)
-first_cut marks (b ∷ bs) some =
-    let n = position_or_len (among marks) (b ∷ bs) in
-    rw add-one (first_is marks b bs)
+first_cut marks (b ∷ bs) some = rw add-one (first_is marks b bs)
 
 -- there are no more parts than bytes
 length-onto_first : (b : ℕ) (ps : List (List ℕ)) → length (onto_first b ps) ≤ length ps + 1

@@ -1,4 +1,4 @@
-// What is said of a line that cannot be read.
+// What is said of a line that cannot be read. The impls are written out, since what the crate `thiserror` derives has no `ghost output`.
 ghost use Rattle.std.specs.Prelude.{Some};
 ghost use Rattle.setrow.specs.Messages.{usage, message, complaint};
 
@@ -6,7 +6,6 @@ use crate::task::{Form, NoTask, Reason, Unreadable};
 use std::error::Error;
 use std::fmt;
 
-// The `Display`s are written out: a derived one (crate `thiserror`) has no `ghost output`.
 // How a line of this form reads.
 impl fmt::Display for Form {
     ghost output = { λ form. Some (usage form) };

@@ -16,8 +16,8 @@ fn cut_at_mark<'a>(bytes: &'a [u8], marks: &[u8]) -> (&'a [u8], &'a [u8])
     }
 }
 
-// The library's `split` would not do: a struct cannot name its closure's type, and it gives an empty part after a last mark.
 // The parts of the bytes that are left, each of which ends with one of the marks.
+// Not the library's `split`, which is no plainer here: a struct cannot name its closure's type, and a last mark gives it one part more.
 #[derive(Drop)]
 pub(crate) struct Parts<'a> {
     rest: &'a [u8],
