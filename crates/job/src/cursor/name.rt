@@ -1,11 +1,19 @@
 // The name of a cell.
+ghost use Rattle.std.specs.Prelude.{◌≡◌};
 ghost use Rattle.std.specs.Option.{option_map};
-ghost use Rattle.job.specs.Format.{good_bytes, name, name_field};
+ghost use Rattle.job.specs.Format.{printable, good_bytes, name, name_field};
 ghost use Rattle.job.specs.Reads.{Reads, viewed, named};
 
 use crate::cursor::map::{CELL_NAME, Map};
 use crate::cursor::{Cursor, Flaw};
 use crate::record::{Cause, Name};
+
+// Whether a name may have a byte.
+fn is_printable(byte: u8) -> bool
+    ensures { result ≡ printable byte }
+{
+    byte.is_ascii_graphic()
+}
 
 impl<'a> Cursor<'a> {
     // Moves over so many bytes of a name, each of which has to be one that a name may have.
@@ -14,7 +22,7 @@ impl<'a> Cursor<'a> {
     {
         for _ in 0..size {
             let place = self.at;
-            if !self.take_byte()?.is_ascii_graphic() {
+            if !is_printable(self.take_byte()?) {
                 return Err(Cause::BadName.at(place));
             }
         }

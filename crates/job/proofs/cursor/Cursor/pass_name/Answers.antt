@@ -15,12 +15,12 @@ returns-in_err-take_byte c =
       moved = moved_on c.loop.invariant.1 told.moved;
     })
 
-pub returns-then-not-is_ascii_graphic : goal.returns-then-not-is_ascii_graphic
-returns-then-not-is_ascii_graphic c =
+pub returns-then-not-is_printable : goal.returns-then-not-is_printable
+returns-then-not-is_printable c =
     let told = c.in_ok-take_byte.ensures in
     let more : c.loop.counter < c.args.size = omega arith in
     rw c.at.ensures (record {
-      reads = sym (good_not c.args.size c.loop.counter _ _ more _ _ (sym told.reads) (sym c.if-not-is_ascii_graphic.ensures.value)) ∙ c.loop.invariant.0;
+      reads = sym (good_not c.args.size c.loop.counter _ _ more _ _ (sym told.reads) (sym c.if-not-is_printable.ensures)) ∙ c.loop.invariant.0;
       moved = moved_on c.loop.invariant.1 told.moved;
     })
 
@@ -28,6 +28,6 @@ pub loop-preserved : goal.loop-preserved
 loop-preserved c =
     let told = c.in_ok-take_byte.ensures in
     let more : c.loop.counter < c.args.size = omega arith in (
-      rw told.moved.same (sym (good_next c.args.size c.loop.counter _ _ more _ _ (sym told.reads) (sym c.if-not-is_ascii_graphic.ensures.value)) ∙ c.loop.invariant.0),
+      rw told.moved.same (sym (good_next c.args.size c.loop.counter _ _ more _ _ (sym told.reads) (sym c.if-not-is_printable.ensures)) ∙ c.loop.invariant.0),
       moved_on c.loop.invariant.1 told.moved,
     )
