@@ -8,11 +8,13 @@ ghost use Rattle.row.specs.Checked.{checked};
 use crate::{Cell, Fault, MOST_CELLS, Refusal, Row};
 use measure::{LAST_PLACE, MOST_WEIGHT};
 
-// The greatest line, width and number.
+// The greatest line.
 const LAST_LINE: u32 = 4_095;
 
+// The most sites that a cell covers.
 const MOST_WIDTH: u32 = 1_000;
 
+// The greatest number of a cell.
 const LAST_NUMBER: u32 = 65_535;
 
 impl Fault {
