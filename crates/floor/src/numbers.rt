@@ -11,6 +11,7 @@ impl Refusal {
     pub fn number(self) -> u32
         ensures { result ≡ number_of self }
     {
+        // A match, since one of the variants holds a fault, so that the enum has no numbers of its own.
         match self {
             Refusal::OutOfRange(fault) => fault.number(),
             Refusal::NumberStands => 5,
@@ -23,6 +24,7 @@ impl Refusal {
     }
 }
 
+// The set call's refusal takes a fault in too: each enum says so for itself, since the trait has one impl for each type.
 impl From<Fault> for Refusal {
     ghost from_gives = { λ fault r. r ≡ OutOfRange fault };
 

@@ -31,7 +31,7 @@ pub enum Line<'a> {
         rise: u64,
         name: Option<&'a [u8]>,
     },
-    // `K no N`, or `K no N NAME`: a record is refused.
+    // `K no N`, or `K no N NAME`: a record is refused. The refusal is its number here, since several crates refuse and this one knows none of them.
     Refused {
         index: u32,
         number: u32,

@@ -88,6 +88,7 @@ impl<'a, M: Measure> Task<'a, M> {
         ensures { Holds (M.price self.now.measure.now) self.now.row self.now.cells.now (length self.now.cells.now) result.items }
     {
         let mut clusters = Clusters::new();
+        // By place: a cluster is a run of places in the cells.
         for first in 0..self.cells.len() {
             self.add(first, &mut clusters);
         }

@@ -56,6 +56,7 @@ impl<'a, M: Measure> Task<'a, M> {
 
 // Sets a row: fills `sites` with the sites of its cells, and answers what they cost.
 // Of all legal settings in wanted order it is the cheapest, and of the cheapest the leftmost.
+// The sites are a buffer that the caller lends, beside the cells, so that setting a row takes no memory.
 pub fn set<M: Measure>(
     measure: &M,
     row: Row,

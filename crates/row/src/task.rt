@@ -77,6 +77,7 @@ impl<'a, M: Measure> Task<'a, M> {
         ensures { result ≡ sites_cost (M.price self.now.measure.now) self.now.cells.now sites.now }
     {
         let mut sum: u64 = 0;
+        // A loop: that the sum fits rests on what the checks say of these cells, which a closure that is summed over is not told.
         for (cell, site) in self.cells.iter().zip(sites) {
             sum += self
                 .measure

@@ -59,6 +59,7 @@ fn run(heap: Global, line: &str) -> anyhow::Result<String> {
     let [measure, line, left, right, length, fields @ ..] = all.as_slice() else {
         return Err(anyhow!("a line has too few numbers"));
     };
+    // Any number but 0 is the plain measure, by the rule of the table.
     let measure = if *measure == 0 {
         MeasureName::Squared
     } else {

@@ -63,6 +63,7 @@ impl Seats {
     {
         let seats = self.on(row);
         let mut sum: u64 = 0;
+        // A loop: that the sum fits rests on what the checks say of these seats, which a closure that is summed over is not told.
         for seat in seats {
             sum += measure.price_at(
                 seat.cell.wanted.site as u16,
