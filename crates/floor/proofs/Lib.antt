@@ -1,4 +1,5 @@
 pub mod Anys
+pub mod Best
 pub mod Chosen
 pub mod Costs
 pub mod Defaults
@@ -13,6 +14,7 @@ pub mod Orders
 pub mod Placed
 pub mod Ready
 pub mod Resited
+pub mod Risen
 pub mod Rising
 pub mod Rowed
 pub mod Settling
