@@ -7,6 +7,7 @@ pub mod Gathered
 pub mod Granted
 pub mod Joining
 pub mod Kept
+pub mod Keeping
 pub mod Known
 pub mod Listed
 pub mod Moved
