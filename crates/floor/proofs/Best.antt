@@ -1,16 +1,24 @@
 -- What is chosen is the row of least rise, and of equal ones the first.
-use Rattle.std.proofs.Common.{◌≡◌, ℕ, ◌<◌, ◌≤◌, Bool, true, false, cond, leb, List, [], ◌∷◌, Some, None, Option, refl, subst, arith}
+use Rattle.std.proofs.Common.{◌≡◌, ℕ, suc, ◌<◌, ◌≤◌, Bool, true, false, cond, leb, List, [], ◌∷◌, Some, None, Ok, Err, Option, Result, refl, subst, ⊎_elim, arith}
 use Rattle.std.proofs.ByRecursion.{All-weaker}
-use Rattle.std.proofs.lemmas.Bool.{leb-true, leb-false, both_ways}
-use Rattle.std.specs.List.{AllByRecursion}
+use Rattle.std.proofs.lemmas.Bool.{leb-true, leb-false, both_ways, or_cases}
+use Rattle.std.specs.List.{ContainsAt as Has, AllByRecursion}
 use Rattle.row.specs.Records.{row_ahead}
 use Rattle.row.specs.declared.Cell.{Cell}
 use Rattle.row.specs.declared.Row.{Row}
 use Rattle.table.specs.Order.{Ordered}
-use Rattle.floor.specs.Calls.{better, chosen, rise}
-use Rattle.floor.specs.Refusals.{has_sites}
+use Rattle.floor.specs.Calls.{better, chosen, rise, seated, refused_or, site_then, placed_on, place_answer}
+use Rattle.floor.specs.Formed.{formed}
+use Rattle.floor.specs.Refusals.{any, has_sites, place_refusal}
+use Rattle.floor.specs.Settled.{Least}
+use Rattle.floor.specs.declared.Placing.{Placing}
+use Rattle.floor.specs.declared.Refusal.{Refusal}
+use Rattle.floor.specs.declared.Refusal.TheVariants.{NoRoom}
 use Rattle.floor.specs.declared.Seat.{Seat}
-use Rattle.floor.proofs.Orders.{row_chain, row_once}
+use Rattle.floor.proofs.Listed.{is_row, Standing, row_is}
+use Rattle.floor.proofs.Orders.{row_once}
+use Rattle.floor.proofs.Placed.{chosen_good}
+use Rattle.floor.proofs.Rowed.{ordered_rows}
 
 module _ (f : ℕ → ℕ → ℕ → ℕ) (seats : List Seat) (cell : Cell) where
   abbrev rises : Row → ℕ
@@ -90,3 +98,46 @@ module _ (f : ℕ → ℕ → ℕ → ℕ) (seats : List Seat) (cell : Cell) whe
   pub best_of : (rows : List Row) → Ordered row_ahead rows → (row : Row) → chosen f seats cell rows ≡ Some row → Best row rows
   best_of [] ordered row e = let never : ◌≡◌ {A = ℕ} 0 1 = cc in absurd (omega arith)
   best_of (r ∷ rows) ordered row e = of_row r row rows (has_sites seats cell r) refl ordered.0 (best_of rows ordered.1) e
+
+-- a row that stands is in the table
+standing_has : (rows : List Row) (row : Row) → Standing rows row → Has rows row
+standing_has [] row e = absurd (both_ways false refl e)
+standing_has (r ∷ rows) row e =
+    ⊎_elim (λ here. (0, omega arith, λ d. row_is row r here))
+    (λ there. let rest = standing_has rows row there in (suc rest.0, let within = rest.1 in omega arith, rest.2))
+    (or_cases (is_row row r) (any (is_row row) rows) e)
+
+module _ (f : ℕ → ℕ → ℕ → ℕ) (rows : List Row) (seats : List Seat) (well : formed rows seats ≡ true) (cell : Cell) where
+  least_row : (row : Row) (site : ℕ) → chosen f seats cell rows ≡ Some row → Least f rows seats cell (record { spot = record { line = row.line; site = site }; rise = rise f seats cell row })
+  least_row row site is =
+      let good = chosen_good f rows seats cell row is in
+      let best = best_of f seats cell rows (ordered_rows rows seats well) row is in
+      record {
+        row = row;
+        standing = standing_has rows row good.stands;
+        fits = good.fits;
+        line = refl;
+        rises = refl;
+        least = best.least;
+        first = best.first;
+      }
+
+  same_ok : (p q : Placing) → ◌≡◌ {A = Result Placing Refusal} (Ok p) (Ok q) → p ≡ q
+  same_ok p q e = cc
+
+  not_ok : (r : Refusal) (q : Placing) → ◌≡◌ {A = Result Placing Refusal} (Err r) (Ok q) → ⊥
+  not_ok r q e = let never : ◌≡◌ {A = ℕ} 0 1 = cc in absurd (omega arith)
+
+  on_least : (placing : Placing) (o : Option Row) → chosen f seats cell rows ≡ o → placed_on f seats cell o ≡ Ok placing → Least f rows seats cell placing
+  on_least placing None is e = absurd (not_ok NoRoom placing e)
+  on_least placing (Some row) is e =
+      let site = site_then cell.number (seated f seats cell row) in
+      subst (Least f rows seats cell) (same_ok (record { spot = record { line = row.line; site = site }; rise = rise f seats cell row }) placing e) (least_row row site is)
+
+  or_least : (placing : Placing) (o : Option Refusal) → refused_or o (placed_on f seats cell (chosen f seats cell rows)) ≡ Ok placing → Least f rows seats cell placing
+  or_least placing None e = on_least placing (chosen f seats cell rows) refl e
+  or_least placing (Some refusal) e = absurd (not_ok refusal placing e)
+
+  -- a granted placing went to the row of least rise, and of equal ones to the first
+  pub place_least : (placing : Placing) → place_answer f rows seats cell ≡ Ok placing → Least f rows seats cell placing
+  place_least placing e = or_least placing (place_refusal rows seats cell) e
