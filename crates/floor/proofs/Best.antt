@@ -122,10 +122,10 @@ module _ (f : ℕ → ℕ → ℕ → ℕ) (rows : List Row) (seats : List Seat)
         first = best.first;
       }
 
-  same_ok : (p q : Placing) → ◌≡◌ {A = Result Placing Refusal} (Ok p) (Ok q) → p ≡ q
+  pub same_ok : (p q : Placing) → ◌≡◌ {A = Result Placing Refusal} (Ok p) (Ok q) → p ≡ q
   same_ok p q e = cc
 
-  not_ok : (r : Refusal) (q : Placing) → ◌≡◌ {A = Result Placing Refusal} (Err r) (Ok q) → ⊥
+  pub not_ok : (r : Refusal) (q : Placing) → ◌≡◌ {A = Result Placing Refusal} (Err r) (Ok q) → ⊥
   not_ok r q e = let never : ◌≡◌ {A = ℕ} 0 1 = cc in absurd (omega arith)
 
   on_least : (placing : Placing) (o : Option Row) → chosen f seats cell rows ≡ o → placed_on f seats cell o ≡ Ok placing → Least f rows seats cell placing

@@ -2,6 +2,7 @@ pub mod Anys
 pub mod Best
 pub mod Chosen
 pub mod Costs
+pub mod Dearer
 pub mod Defaults
 pub mod Gathered
 pub mod Granted
