@@ -1,3 +1,4 @@
 pub mod Costs
 pub mod Measures
+pub mod Names
 pub mod Steps

@@ -1,10 +1,14 @@
-// What a move costs: the trait `Measure`, and the two measures `Squared` and `Plain`.
+// What a move costs: the trait `Measure`, the two measures `Squared` and `Plain`, and their names.
 #![tactic(auto)]
 
 ghost use Rattle.std.specs.Prelude.{◌≡◌, ℕ};
 ghost use Rattle.measure.specs.Costs.{Fair, cost_of, rise_of, step_of};
 ghost use Rattle.measure.specs.Measures.{squared, plain};
 ghost use Rattle.measure.specs.Steps.{squared_fair, plain_fair};
+
+mod name;
+
+pub use name::{MeasureName, UnknownMeasure};
 
 // The greatest place and wanted place, and the greatest weight.
 pub const LAST_PLACE: u32 = 65_535;
@@ -58,13 +62,15 @@ impl Measure for Squared {
     ghost fair = { λ m. squared_fair };
 
     fn price_at(&self, wanted: u16, weight: u16, place: u16) -> u64 {
-        let distance = place.abs_diff(wanted) as u64;
-        weight as u64 * (distance * distance)
+        let distance = u64::from(place.abs_diff(wanted));
+        u64::from(weight) * (distance * distance)
     }
 
     fn step_at(&self, wanted: u16, weight: u16, place: u16) -> i64 {
-        let weight = weight as u64;
-        (2 * (weight * place as u64) + weight) as i64 - (2 * (weight * wanted as u64)) as i64
+        let weight = u64::from(weight);
+        let here = weight * u64::from(place);
+        let home = weight * u64::from(wanted);
+        (2 * here + weight) as i64 - (2 * home) as i64
     }
 }
 
@@ -78,14 +84,11 @@ impl Measure for Plain {
     ghost fair = { λ m. plain_fair };
 
     fn price_at(&self, wanted: u16, weight: u16, place: u16) -> u64 {
-        weight as u64 * place.abs_diff(wanted) as u64
+        u64::from(weight) * u64::from(place.abs_diff(wanted))
     }
 
     fn step_at(&self, wanted: u16, weight: u16, place: u16) -> i64 {
-        if place < wanted {
-            -(weight as i64)
-        } else {
-            weight as i64
-        }
+        let weight = i64::from(weight);
+        if place < wanted { -weight } else { weight }
     }
 }

@@ -1,8 +1,10 @@
--- Where a key stands in an ordered table, found by halving.
-use Rattle.std.proofs.Common.{◌≡◌, ℕ, zero, suc, ◌+◌, ◌<◌, ◌≤◌, Bool, true, false, cond, List, [], ◌∷◌, length, get_or, sym, refl, ap, ◌∙◌, arith}
+-- Where a key stands in an ordered table, and what stands on its two sides.
+use Rattle.std.proofs.Common.{◌≡◌, ℕ, zero, suc, ◌+◌, ◌<◌, ◌≤◌, Bool, true, false, cond, List, [], ◌∷◌, length, get_or, sym, refl, arith}
 use Rattle.std.proofs.ByRecursion.{All-get_or}
 use Rattle.std.proofs.lemmas.Bool.{both_ways}
+use Rattle.std.proofs.lemmas.List.Sums.{prefix_len_passes, prefix_len_is}
 use Rattle.std.specs.List.{AllByRecursion}
+use Rattle.std.specs.List.Sorted.{IsPartitionedBy, IsPartitionPoint}
 use Rattle.table.specs.Order.{Ordered, rank_of}
 
 module _ {X : Type 0} (ahead : X → X → Bool) (chain : (a b c : X) → ahead a b ≡ true → ahead b c ≡ true → ahead a c ≡ true) (key : X) where
@@ -35,9 +37,13 @@ module _ {X : Type 0} (ahead : X → X → Bool) (chain : (a b c : X) → ahead 
   rank_below (x ∷ xs) zero d within fails = rw fails (omega arith)
   rank_below (x ∷ xs) (suc i) d within fails = below (ahead x key) i (rank_of ahead xs key) (rank_below xs i d (omega arith) fails)
 
-  -- what a test of the record x at place i says of the key's place
-  pub after_true : (xs : List X) (i : ℕ) (x : X) → i < length xs → x ≡ get_or xs i x → true ≡ ahead x key → Ordered ahead xs → i < rank_of ahead xs key
-  after_true xs i x within is test ordered = rank_above xs ordered i x within (ap (λ y. ahead y key) (sym is) ∙ sym test)
+  -- an ordered table is split by its key: where a record is ahead of the key, those before it are
+  pub ordered_splits : (xs : List X) → Ordered ahead xs → IsPartitionedBy (λ x. ahead x key) xs
+  ordered_splits xs ordered i j d before within passes =
+      let later = rank_above xs ordered j d within passes in
+      prefix_len_passes (λ x. ahead x key) xs i d (omega arith)
 
-  pub after_false : (xs : List X) (i : ℕ) (x : X) → i < length xs → x ≡ get_or xs i x → false ≡ ahead x key → rank_of ahead xs key ≤ i
-  after_false xs i x within is test = rank_below xs i x within (ap (λ y. ahead y key) (sym is) ∙ sym test)
+-- the place that splits a table in records ahead of the key and others is the key's place
+pub rank_at_point : {X : Type 0} (ahead : X → X → Bool) (key : X) (xs : List X) (i : ℕ) → i ≤ length xs → IsPartitionPoint (λ x. ahead x key ≡ true) (λ x. ahead x key ≡ false) xs i → i ≡ rank_of ahead xs key
+rank_at_point ahead key xs i bound point =
+    sym (prefix_len_is (λ x. ahead x key) xs i key bound (λ k within. point.0 k key (omega arith) within) (λ within. point.1 i key (omega arith) within))

@@ -20,16 +20,5 @@ pub fn place_of<R: Ranked>(table: &[R], key: &R) -> usize
     ensures bound { result ≤ length table.now }
     ensures finds { Ordered R.ahead table.now → result ≡ rank_of R.ahead table.now key.now }
 {
-    let mut low = 0;
-    let mut high = table.len();
-    while low < high {
-        let middle = low + (high - low) / 2;
-        let earlier = table[middle].is_ahead(key);
-        if earlier {
-            low = middle + 1;
-        } else {
-            high = middle;
-        }
-    }
-    low
+    table.partition_point(|record| record.is_ahead(key))
 }

@@ -8,4 +8,4 @@ returns c =
     let here = short_product c.args.weight c.args.place (omega arith) (omega arith) in
     let home = short_product c.args.weight c.args.wanted (omega arith) (omega arith) in
     let step = squared_step c.args.wanted c.args.weight c.args.place in
-    omega (arith, ints)
+    simp (c.from-weight.ensures, c.from.ensures, c.from-2.ensures) (omega (arith, ints))
