@@ -8,7 +8,7 @@ use std::io::Write;
 // Writes a line and prints it, or prints the number of the refusal.
 fn show(rt: &HostRuntime, buffer: &mut [u8], line: Line) -> io::Result<()> {
     match line.write(buffer) {
-        Ok(end) => rt.stdout().write_all(&buffer[0..end]),
+        Ok(end) => rt.stdout().write_all(&buffer[..end]),
         Err(refusal) => println!(rt; "refused {}", refusal.number()),
     }
 }
@@ -22,10 +22,8 @@ fn show_kinds(
     name: Option<&[u8]>,
 ) -> io::Result<()> {
     let [first, second, third] = numbers;
-    show(rt, buffer, Line::Granted { index: first, name })?;
-    show(
-        rt,
-        buffer,
+    let lines = [
+        Line::Granted { index: first, name },
         Line::Seated {
             index: first,
             line: second,
@@ -33,61 +31,44 @@ fn show_kinds(
             rise: cost,
             name,
         },
-    )?;
-    show(
-        rt,
-        buffer,
         Line::Refused {
             index: first,
             number: second,
             name,
         },
-    )?;
-    show(
-        rt,
-        buffer,
         Line::Unreadable {
             index: first,
             number: second,
             place: third,
         },
-    )?;
-    show(
-        rt,
-        buffer,
         Line::Cell {
             number: first,
             line: second,
             site: third,
         },
-    )?;
-    show(rt, buffer, Line::Cost { cost })
+        Line::Cost { cost },
+    ];
+    for line in lines {
+        show(rt, buffer, line)?;
+    }
+    Ok(())
 }
 
 // Shows each kind of line at the largest numbers.
 fn show_largest(rt: &HostRuntime, buffer: &mut [u8], name: Option<&[u8]>) -> io::Result<()> {
-    show_kinds(
-        rt,
-        buffer,
-        [u32::MAX, u32::MAX - 1, u32::MAX - 2],
-        u64::MAX,
-        name,
-    )
+    let numbers = [u32::MAX, u32::MAX - 1, u32::MAX - 2];
+    show_kinds(rt, buffer, numbers, u64::MAX, name)
 }
 
 fn main(rt: HostRuntime) -> io::Result<()> {
     let mut buffer = [b'x'; LEAST_BUFFER];
-    let longest = [b'~'; LONGEST_NAME];
-    let too_long = [b'~'; 256];
-    let none: Option<&[u8]> = None;
-    let short: Option<&[u8]> = Some(b"!");
-    let long: Option<&[u8]> = Some(&longest);
-    show_kinds(&rt, &mut buffer, [0, 0, 0], 0, none)?;
-    show_kinds(&rt, &mut buffer, [9, 10, 11], 99, short)?;
-    show_kinds(&rt, &mut buffer, [100, 999, 1_000], 65_535, short)?;
-    show_largest(&rt, &mut buffer, none)?;
-    show_largest(&rt, &mut buffer, long)?;
-    let refused: Option<&[u8]> = Some(&too_long);
-    show_largest(&rt, &mut buffer, refused)?;
-    show_kinds(&rt, &mut buffer[1..LEAST_BUFFER], [1, 2, 3], 4, none)
+    let longest: &[u8] = &[b'~'; LONGEST_NAME];
+    let too_long: &[u8] = &[b'~'; LONGEST_NAME + 1];
+    show_kinds(&rt, &mut buffer, [0, 0, 0], 0, None)?;
+    show_kinds(&rt, &mut buffer, [9, 10, 11], 99, Some(b"!"))?;
+    show_kinds(&rt, &mut buffer, [100, 999, 1_000], 65_535, Some(b"!"))?;
+    show_largest(&rt, &mut buffer, None)?;
+    show_largest(&rt, &mut buffer, Some(longest))?;
+    show_largest(&rt, &mut buffer, Some(too_long))?;
+    show_kinds(&rt, &mut buffer[1..], [1, 2, 3], 4, None)
 }

@@ -1,18 +1,14 @@
 -- How long lines and their parts are.
-use Rattle.std.proofs.Common.{◌≡◌, ℕ, ◌+◌, ◌^◌, ◌<◌, ◌≤◌, List, length, Some, None, decimal, Option, refl, ap, ◌∙◌, arith, length-append, Bor}
+use Rattle.std.proofs.Common.{ℕ, ◌+◌, ◌^◌, ◌<◌, ◌≤◌, List, length, Some, None, decimal, Option, arith, length-append, Bor}
 use Rattle.std.proofs.lemmas.Fmt.{length-decimal-le}
 use Rattle.lines.specs.Texts.{ending, name_bytes, name_of, text}
 use Rattle.lines.specs.declared.Line.{Line}
 use Rattle.lines.specs.declared.Line.TheVariants.{Granted, Seated, Refused, Unreadable, Cell, Cost}
 
--- a name, a space and a newline
-pub ending_some : (name : Option (Bor (List ℕ))) (x : Bor (List ℕ)) → name ≡ Some x → length (ending name) ≡ length x.now + 2
-ending_some name x is = ap (λ n. length (ending n)) is ∙ simp length-append (omega arith)
-
 -- what ends a line has at most two bytes more than the name
 pub ending_length : (name : Option (Bor (List ℕ))) → length (ending name) ≤ length (name_bytes name) + 2
 ending_length None = omega arith
-ending_length (Some x) = omega (arith, ending_some (Some x) x refl)
+ending_length (Some x) = simp length-append (omega arith)
 
 -- a number of 32 bits has at most ten digits
 pub ten_digits : (n : ℕ) → n < 2 ^ 32 → length (decimal n) ≤ 10

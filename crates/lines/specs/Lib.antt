@@ -1,3 +1,3 @@
-pub mod Parts
+pub mod Fronts
 pub mod Texts
 pub mod Writes

@@ -2,13 +2,13 @@
 #![tactic(auto)]
 
 ghost use Rattle.std.specs.Prelude.{◌≡◌, ◌+◌, ◌≤◌, length, IfOk};
+ghost use Rattle.lines.specs.Fronts.{HasRoom, Puts};
 ghost use Rattle.lines.specs.Texts.{text, name_of, name_bytes};
 ghost use Rattle.lines.specs.Writes.{number_of, write_answer, write_buffer};
 
-mod parts;
-mod texts;
+mod front;
 
-use texts::put_line;
+use front::Front;
 
 // The least length of a line buffer, and the greatest of a name.
 pub const LEAST_BUFFER: usize = 320;
@@ -64,57 +64,100 @@ impl ShortBuffer {
     pub fn number(self) -> u32
         ensures { result ≡ number_of self }
     {
-        match self {
-            ShortBuffer => 20,
-        }
-    }
-}
-
-// The length of a name, 0 where there is none.
-fn length_of(name: Option<&[u8]>) -> usize
-    ensures { result ≡ length (name_bytes name.entry) }
-{
-    match name {
-        Some(name) => name.len(),
-        None => 0,
+        20
     }
 }
 
 impl Line<'_> {
-    // The length of the line's name, 0 where there is none; all else takes at most 58 bytes.
-    fn name_length(&self) -> usize
-        ensures value { result ≡ length (name_of self.now) }
-        ensures others { length (text self.now) ≤ 58 + result }
+    // The line's name, where it has one; all else takes at most 58 bytes.
+    // The numbers are bound because their widths limit the text.
+    #[allow(unused_variables)]
+    #[tactic(auto, using(crate::proofs::Lengths::text_length))]
+    fn name(&self) -> Option<&[u8]>
+        ensures value { name_bytes result ≡ name_of self.now }
+        ensures others { length (text self.now) ≤ 58 + length (name_of self.now) }
     {
-        // The numbers are bound because their widths limit the text.
         match *self {
-            Line::Granted {
-                index: _index,
-                name,
-            } => length_of(name),
+            Line::Granted { index, name } => name,
             Line::Seated {
-                index: _index,
-                line: _line,
-                site: _site,
-                rise: _rise,
+                index,
+                line,
+                site,
+                rise,
                 name,
-            } => { length_of(name) }
+            } => name,
             Line::Refused {
-                index: _index,
-                number: _number,
+                index,
+                number,
                 name,
-            } => length_of(name),
+            } => name,
             Line::Unreadable {
-                index: _index,
-                number: _number,
-                place: _place,
-            } => 0,
-            Line::Cell {
-                number: _number,
-                line: _line,
-                site: _site,
-            } => 0,
-            Line::Cost { cost: _cost } => 0,
+                index,
+                number,
+                place,
+            } => None,
+            Line::Cell { number, line, site } => None,
+            Line::Cost { cost } => None,
+        }
+    }
+
+    // Puts the line's text.
+    fn put(self, front: &mut Front)
+        requires room { HasRoom front.old (text self) }
+        ensures { Puts front.old (text self.entry) front.new }
+    {
+        match self {
+            Line::Granted { index, name } => {
+                front.put_number(index);
+                front.put(b" ok");
+                front.put_ending(name);
+            }
+            Line::Seated {
+                index,
+                line,
+                site,
+                rise,
+                name,
+            } => {
+                front.put_number(index);
+                front.put(b" ok");
+                front.put_spaced(line);
+                front.put_spaced(site);
+                front.put_spaced(rise);
+                front.put_ending(name);
+            }
+            Line::Refused {
+                index,
+                number,
+                name,
+            } => {
+                front.put_number(index);
+                front.put(b" no");
+                front.put_spaced(number);
+                front.put_ending(name);
+            }
+            Line::Unreadable {
+                index,
+                number,
+                place,
+            } => {
+                front.put_number(index);
+                front.put(b" bad");
+                front.put_spaced(number);
+                front.put_spaced(place);
+                front.put(b"\n");
+            }
+            Line::Cell { number, line, site } => {
+                front.put_number(number);
+                front.put_spaced(line);
+                front.put_spaced(site);
+                front.put(b"\n");
+            }
+            Line::Cost { cost } => {
+                front.put(b"cost");
+                front.put_spaced(cost);
+                front.put(b"\n");
+            }
         }
     }
 
@@ -127,10 +170,12 @@ impl Line<'_> {
         ensures fits { IfOk result (λ end. end ≤ 320) }
         ensures short { length (name_of self.entry) ≤ 255 → length (text self.entry) ≤ 320 }
     {
-        let name = self.name_length();
-        if buffer.len() < LEAST_BUFFER || name > LONGEST_NAME {
+        let too_long = self.name().is_some_and(|name| name.len() > LONGEST_NAME);
+        if buffer.len() < LEAST_BUFFER || too_long {
             return Err(ShortBuffer);
         }
-        Ok(put_line(buffer, self))
+        let mut front = Front { buffer, end: 0 };
+        self.put(&mut front);
+        Ok(front.end)
     }
 }

@@ -1,0 +1,6 @@
+use Rattle.std.proofs.Common.{rules}
+use Rattle.std.proofs.lemmas.Slice.{overwrites}
+use Rattle.lines.proofs.front.Front.put.Goals as goal
+
+pub returns : goal.returns
+returns c = search (rules, overwrites)

@@ -1,0 +1,56 @@
+// The front of a lent buffer, filled from its first byte on.
+// It is not filled by `write!`, whose contract does not say when it succeeds; a name is bytes and not text.
+ghost use Rattle.std.specs.Prelude.{◌++◌, codes};
+ghost use Rattle.lines.specs.Fronts.{HasRoom, Puts};
+ghost use Rattle.lines.specs.Texts.{ending};
+
+use itoa::{Buffer, Integer};
+
+// A lent buffer, and where the bytes put into it end.
+#[derive(Drop)]
+pub(crate) struct Front<'a> {
+    pub(crate) buffer: &'a mut [u8],
+    pub(crate) end: usize,
+}
+
+// Each put asks for the room of its own bytes, so no one fact about the struct can stand for all.
+impl Front<'_> {
+    // Puts bytes behind those that stand there.
+    pub(crate) fn put(&mut self, bytes: &[u8])
+        requires room { HasRoom self.old bytes.now }
+        ensures { Puts self.old bytes.now self.new }
+    {
+        let end = self.end + bytes.len();
+        self.buffer[self.end..end].copy_from_slice(bytes);
+        self.end = end;
+    }
+
+    // Puts a number in decimal.
+    pub(crate) fn put_number<I: Integer>(&mut self, number: I)
+        requires room { HasRoom self.old (I.text number) }
+        ensures { Puts self.old (I.text number) self.new }
+    {
+        self.put(Buffer::new().format(number).as_bytes());
+    }
+
+    // Puts a space and a number.
+    pub(crate) fn put_spaced<I: Integer>(&mut self, number: I)
+        requires room { HasRoom self.old (codes " " ++ I.text number) }
+        ensures { Puts self.old (codes " " ++ I.text number) self.new }
+    {
+        self.put(b" ");
+        self.put_number(number);
+    }
+
+    // Puts the name, if there is one, and ends the line.
+    pub(crate) fn put_ending(&mut self, name: Option<&[u8]>)
+        requires room { HasRoom self.old (ending name) }
+        ensures { Puts self.old (ending name.entry) self.new }
+    {
+        if let Some(name) = name {
+            self.put(b" ");
+            self.put(name);
+        }
+        self.put(b"\n");
+    }
+}
