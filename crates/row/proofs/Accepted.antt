@@ -7,7 +7,7 @@ use Rattle.std.specs.List.{AllByRecursion}
 use Rattle.row.specs.Records.{then, before, widths}
 use Rattle.row.specs.Refusals.{cells_refusal, set_refusal}
 use Rattle.row.specs.Settings.{EveryPair}
-use Rattle.row.specs.Stack.{Passes}
+use Rattle.row.specs.Stack.{Passes, Ready}
 use Rattle.row.specs.declared.Cell.{Cell}
 use Rattle.row.specs.declared.Row.{Row}
 use Rattle.row.proofs.Ranges.{passed, RangedRow, ranged_row}
@@ -81,3 +81,7 @@ accepted row cells count e =
       order = cs.1;
       room = omega arith;
     }
+
+-- of a row and its cells that are ready
+pub ready_known : (row : Row) (cells : List Cell) → Ready row cells → Accepted row cells (length cells)
+ready_known row cells ready = accepted row cells (length cells) ready

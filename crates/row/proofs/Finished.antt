@@ -1,5 +1,5 @@
 -- What is known of a row once its clusters are found and its sites are written.
-use Rattle.std.proofs.Common.{◌≡◌, ℕ, ◌≤◌, List, [], ◌∷◌, map, reverse, length, take, sym, ap, ◌∙◌, subst, arith}
+use Rattle.std.proofs.Common.{◌≡◌, ℕ, ◌≤◌, List, [], ◌∷◌, map, reverse, length, sym, ap, ◌∙◌, subst, arith}
 use mathlib.Core.List.{reverse-cons}
 use Rattle.std.proofs.ByRecursion.{All-push}
 use Rattle.std.proofs.lemmas.List.{take_all, reverse-reverse}
@@ -13,6 +13,7 @@ use Rattle.row.specs.declared.Cell.{Cell}
 use Rattle.row.specs.declared.Row.{Row}
 use Rattle.row.specs.declared.cluster.Cluster.{Cluster as Run}
 use Rattle.row.proofs.Accepted.{Accepted}
+use Rattle.row.proofs.Laying.{Laid, lay_all}
 use Rattle.row.proofs.Instance.{lane, span_is}
 use Rattle.row.proofs.Stacked.{prefix_sound}
 use Rattle.row.proofs.Subject.{row_cheapest}
@@ -40,27 +41,18 @@ module _ (f : ℕ → ℕ → ℕ → ℕ) (row : Row) (cells : List Cell) (n : 
       let right = a.ranged.right in
       (omega arith, sound_places ks k.first tiled.1 sound.1)
 
-  module _ (runs : List Run) (count : ℕ) (h : Holds f row cells (length cells) runs count) where
-    all_taken : take (length cells) cells ≡ cells
-    all_taken = take_all (length cells) cells (omega arith)
+  module _ (runs : List Run) (h : Holds f row cells (length cells) runs) where
+    clusters_are : stack_of cells runs ≡ row_clusters f row cells
+    clusters_are = h.clusters ∙ ap (row_clusters f row) (take_all (length cells) cells (omega arith))
 
-    clusters_are : stack_of cells (take count runs) ≡ row_clusters f row cells
-    clusters_are = h.clusters ∙ ap (row_clusters f row) all_taken
+    pub in_places : AllByRecursion InPlaces runs
+    in_places =
+        let sound : Sound (lane f row) (stack_of cells runs) = subst (Sound (lane f row)) (sym h.clusters) (prefix_sound fair a (length cells)) in
+        subst (AllByRecursion InPlaces) (reverse-reverse runs) (all_reverse InPlaces (reverse runs) (sound_places (reverse runs) (length cells) h.tiled sound))
 
-    -- the first m runs, where m is their count
-    module _ (m : ℕ) (same : m ≡ count) where
-      pub tiled_first : Tiled cells (length cells) (reverse (take m runs))
-      tiled_first = subst (λ k. Tiled cells (length cells) (reverse (take k runs))) (sym same) h.tiled
-
-      pub in_places : AllByRecursion InPlaces (take m runs)
-      in_places =
-          let sound : Sound (lane f row) (stack_of cells (take count runs)) = subst (Sound (lane f row)) (sym h.clusters) (prefix_sound f row cells n fair a (length cells)) in
-          subst (λ k. AllByRecursion InPlaces (take k runs)) (sym same)
-          (subst (AllByRecursion InPlaces) (reverse-reverse (take count runs)) (all_reverse InPlaces (reverse (take count runs)) (sound_places (reverse (take count runs)) (length cells) h.tiled sound)))
-
-      -- the sites laid out are the row's
-      pub laid_are : laid abut (stack_of cells (take m runs)) ≡ row_sites f row cells
-      laid_are = ap (λ k. laid abut (stack_of cells (take k runs))) same ∙ ap (laid abut) clusters_are
+    -- the sites of all runs are the row's
+    pub laid_are : (i past : ℕ) (sites : List ℕ) → length runs ≤ i → length sites ≡ length cells → Laid cells runs i past sites → sites ≡ row_sites f row cells
+    laid_are i past sites all each l = lay_all cells runs i past sites h.tiled all each l ∙ ap (laid abut) clusters_are
 
   pub row_each : length (row_sites f row cells) ≡ length cells
   row_each = (row_cheapest f row fair cells n a).setting.each

@@ -3,6 +3,7 @@ pub mod Defaults
 pub mod Fewer
 pub mod Finished
 pub mod Instance
+pub mod Laying
 pub mod Least
 pub mod Parts
 pub mod Ranges

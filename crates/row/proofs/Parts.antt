@@ -1,15 +1,20 @@
 -- Parts of a list of cells, from one place up to another.
-use Rattle.std.proofs.Common.{◌≡◌, ℕ, ◌+◌, ◌-◌, ◌<◌, ◌≤◌, List, [], ◌∷◌, ◌++◌, length, get_or, take, drop, sym, ap, ◌∙◌, arith}
+use Rattle.std.proofs.Common.{◌≡◌, ℕ, zero, suc, ◌+◌, ◌-◌, ◌<◌, ◌≤◌, Bool, true, false, ◌&&◌, List, [], ◌∷◌, ◌++◌, length, get_or, take, drop, Some, None, Option, sym, refl, ap, ◌∙◌, eq-eqb, arith}
+use Rattle.std.proofs.lemmas.Bool.{le-leb}
 use Rattle.std.proofs.lemmas.List.Edits.{between_none, between_more}
 use Rattle.std.proofs.ByRecursion.{All-take, All-drop}
 use Rattle.std.proofs.lemmas.List.{take-append-drop, take-take, drop-take, drop-drop, length-take, length-drop}
 use Rattle.std.specs.List.{between, AllByRecursion}
-use Rattle.row.specs.Records.{widths}
-use Rattle.row.specs.Stack.{Passes, Follows, part}
+use Rattle.std.specs.Option.{option_map}
+use Rattle.row.specs.Records.{check, then, cell_fault, before, widths}
+use Rattle.row.specs.Refusals.{next_refusal, cells_refusal}
+use Rattle.row.specs.Stack.{Passes, Ready, Follows, part}
 use Rattle.row.specs.declared.Cell.{Cell}
+use Rattle.row.specs.declared.Refusal.TheVariants.{OutOfRange, Order}
 use Rattle.row.specs.declared.Row.{Row}
 use Rattle.row.specs.declared.cluster.Cluster.{Cluster as Run}
-use Rattle.row.proofs.Accepted.{Accepted}
+use Rattle.row.proofs.Accepted.{both, Accepted, accepted}
+use Rattle.row.proofs.Ranges.{passed}
 
 -- a front part of a list, cut once more
 take_cut : {X : Type 0} (xs : List X) (m n k : ℕ) → k ≡ m + n → take k xs ≡ take m xs ++ take n (drop m xs)
@@ -68,6 +73,49 @@ part_known {row} {cells} {count} accepted a b =
       pass = All-take Passes (b - a) (drop a cells) (All-drop Passes a cells accepted.pass);
       room = omega (arith, accepted.room);
     }
+
+-- two lots of checks that both let pass
+neither : {E : Type 0} (some others : Option E) → some ≡ None → others ≡ None → then some others ≡ None
+neither some others a b = ap (λ o. then o others) a ∙ b
+
+-- a check whose test is true lets pass what those after it do
+let_pass : {E : Type 0} (test : Bool) (failure : E) (others : Option E) → test ≡ true → others ≡ None → check test failure others ≡ None
+let_pass test failure others test_true e = ap (λ b. check b failure others) test_true ∙ e
+
+and_true : (x y : Bool) → x ≡ true → y ≡ true → (x && y) ≡ true
+and_true true y a b = b
+and_true false y a b = a
+
+-- cells that come after another are not refused without it
+without : (last : Cell) (cs : List Cell) → cells_refusal (Some last) cs ≡ None → cells_refusal None cs ≡ None
+without last [] e = refl
+without last (c ∷ cs) e =
+    let parts = both (next_refusal (Some last) c) (cells_refusal (Some c) cs) e in
+    let own = both (option_map OutOfRange (cell_fault c)) (check (before last c) Order None) parts.0 in
+    neither (next_refusal None c) (cells_refusal (Some c) cs) (neither (option_map OutOfRange (cell_fault c)) None own.0 refl) parts.1
+
+-- nor are the first of them, nor those behind the first
+taken : (last : Option Cell) (n : ℕ) (cs : List Cell) → cells_refusal last cs ≡ None → cells_refusal last (take n cs) ≡ None
+taken last zero cs e = refl
+taken last (suc n) [] e = refl
+taken last (suc n) (c ∷ cs) e = let parts = both _ _ e in neither _ _ parts.0 (taken (Some c) n cs parts.1)
+
+dropped : (n : ℕ) (cs : List Cell) → cells_refusal None cs ≡ None → cells_refusal None (drop n cs) ≡ None
+dropped zero cs e = e
+dropped (suc n) [] e = refl
+dropped (suc n) (c ∷ cs) e = dropped n cs (without c cs (both _ _ e).1)
+
+-- so a part of the cells of a row that is not refused is not refused either
+pub part_ready : (row : Row) (cells : List Cell) (a b : ℕ) → Ready row cells → Ready row (between a b cells)
+part_ready row cells a b ready =
+    let row_first = both _ _ ready in
+    let sizes = passed _ _ _ row_first.1 in
+    let by_cell = both _ _ sizes.1 in
+    let known = part_known (accepted row cells _ ready) a b in
+    neither _ _ row_first.0
+    (let_pass _ _ _ (and_true _ _ (le-leb _ _ known.few) (eq-eqb _ _ refl))
+    (neither _ _ (taken None (b - a) (drop a cells) (dropped a cells by_cell.0))
+    (let_pass _ _ _ (le-leb _ _ (let room = known.room in omega arith)) refl)))
 
 -- two runs that follow one another cover a part, and together its width
 pub part_joined : {cells : List Cell} {b k : Run} → Follows cells b k → part cells b ++ part cells k ≡ between b.first k.past cells

@@ -1,14 +1,15 @@
 -- The clusters that the program keeps, and the stack of the theory.
-use Rattle.std.proofs.Common.{◌≡◌, ℕ, ◌+◌, ◌-◌, ◌<◌, ◌≤◌, true, false, ltb, List, [], ◌∷◌, ◌++◌, map, reverse, length, get_or, take, drop, set, sym, refl, ap, ◌∙◌, subst, append_assoc, arith}
+use Rattle.std.proofs.Common.{◌≡◌, ℕ, ◌+◌, ◌-◌, ◌<◌, ◌≤◌, true, false, ltb, List, [], ◌∷◌, ◌++◌, map, reverse, length, get_or, take, Some, sym, refl, ap, ◌∙◌, subst, arith}
 use Rattle.std.proofs.lemmas.List.Edits.{length-between}
 use Rattle.std.proofs.ByRecursion.{All-take, All-get_or}
-use Rattle.std.proofs.lemmas.List.{take_more, take_more_set, reverse-append, length-reverse, length-take-le, length-set, drop_at}
+use Rattle.std.proofs.lemmas.List.{take_more, take_all, reverse-append, length-reverse}
+use Rattle.std.proofs.lemmas.Option.{slice_get_within, get_or_from_slice_get}
 use Rattle.std.proofs.lemmas.Bool.{cond-true, cond-false, lt-ltb, le-ltb}
-use Rattle.std.specs.List.{between}
+use Rattle.std.specs.List.{between, slice_get}
 use Rattle.measure.specs.Costs.{Fair}
-use Rattle.row.specs.Clusters.{Cluster, at_best, push, settle, laid}
+use Rattle.row.specs.Clusters.{Cluster, at_best, push, settle}
 use Rattle.row.specs.Records.{widths}
-use Rattle.row.specs.Sites.{abut, best_site, reach as reaches, row_clusters}
+use Rattle.row.specs.Sites.{best_site, reach as reaches, row_clusters}
 use Rattle.row.specs.Stack.{Passes, part, cluster_of, stack_of, Spans, AtBest, Follows, Bracketed, Tiled, Holds}
 use Rattle.row.specs.declared.Cell.{Cell}
 use Rattle.row.specs.declared.Row.{Row}
@@ -22,13 +23,20 @@ use Rattle.row.proofs.Theory.Cheapest.{settled_sound}
 use Rattle.row.proofs.Theory.Packed.{Lane, NonEmpty, AllBend, span, reach}
 use Rattle.row.proofs.Theory.Settled.{Sound, cells_of}
 
--- the runs taken from the last on, one at a time
-pub top_run : (runs : List Run) (i count : ℕ) → count ≡ i + 1 → i < length runs → reverse (take count runs) ≡ get_or runs i no_run ∷ reverse (take i runs)
-top_run runs i count e within = ap (λ n. reverse (take n runs)) e ∙ ap reverse (take_more runs i no_run within) ∙ reverse-append (take i runs) (get_or runs i no_run ∷ [])
+-- a run on top of others
+pub pushed_run : (runs : List Run) (k : Run) → reverse (runs ++ k ∷ []) ≡ k ∷ reverse runs
+pushed_run runs k = reverse-append runs (k ∷ [])
 
--- a run written behind the first ones
-pub pushed_run : (runs : List Run) (count : ℕ) (k : Run) → count < length runs → reverse (take (count + 1) (set runs count k)) ≡ k ∷ reverse (take count runs)
-pushed_run runs count k within = ap reverse (take_more_set runs count k within) ∙ reverse-append (take count runs) (k ∷ [])
+-- a run stands on top of others
+pub record OnTop (runs others : List Run) (b : Run) : Type 0 where
+  pub is : runs ≡ others ++ b ∷ []
+
+pub top_of : (runs : List Run) (b : Run) → Some b ≡ slice_get runs (length runs - 1) → OnTop runs (take (length runs - 1) runs) b
+top_of runs b last =
+    let i : ℕ = length runs - 1 in
+    let within : i < length runs = slice_get_within runs i b (sym last) in
+    let same : get_or runs i no_run ≡ b = get_or_from_slice_get runs i b no_run (sym last) in
+    record { is = sym (take_all (i + 1) runs (omega arith)) ∙ take_more runs i no_run within ∙ ap (λ k. take i runs ++ k ∷ []) same }
 
 -- runs that follow one another have the cells from the first on, and are at most as many
 pub tiled_cells : (cells : List Cell) (ks : List Run) (past : ℕ) → Tiled cells past ks → cells_of (map (cluster_of cells) ks) ≡ take past cells
@@ -47,11 +55,10 @@ tiled_count cells (k ∷ ks) past tiled =
     let rest = tiled_count cells ks k.first tiled.1 in
     omega arith
 
-pub few_runs : (cells : List Cell) (runs : List Run) (count past : ℕ) → count ≤ length runs → Tiled cells past (reverse (take count runs)) → count ≤ past
-few_runs cells runs count past few tiled =
-    let all = length-take-le count runs few in
-    let back = length-reverse (take count runs) in
-    omega (arith, tiled_count cells (reverse (take count runs)) past tiled)
+pub few_runs : (cells : List Cell) (runs : List Run) (past : ℕ) → Tiled cells past (reverse runs) → length runs ≤ past
+few_runs cells runs past tiled =
+    let back = length-reverse runs in
+    omega (arith, tiled_count cells (reverse runs) past tiled)
 
 -- what has a length is not empty
 some_length : {A : Type 0} (xs : List A) → 0 < length xs → NonEmpty xs
@@ -70,24 +77,24 @@ settle_push : (best : List Cell → ℕ) (cs : List Cell) (c : Cell) (stack : Li
 settle_push best [] c stack = refl
 settle_push best (d ∷ cs) c stack = settle_push best cs c (push reaches best (at_best reaches best (d ∷ [])) stack)
 
--- the last cluster, on the clusters that the first `count` runs are: what is to come of them once it is pushed
-pub record Pushing (f : ℕ → ℕ → ℕ → ℕ) (row : Row) (cells : List Cell) (past : ℕ) (runs : List Run) (count : ℕ) (last : Run) : Type 0 where
-  pub few : count ≤ length runs
+-- the last cluster, on the clusters that the runs are: what is to come of them once it is pushed
+pub record Pushing (f : ℕ → ℕ → ℕ → ℕ) (row : Row) (cells : List Cell) (past : ℕ) (runs : List Run) (last : Run) : Type 0 where
   pub spans : Spans cells past last
-  pub tiled : Tiled cells last.first (reverse (take count runs))
+  pub tiled : Tiled cells last.first (reverse runs)
   pub sure : Certified (lane f row) (part cells last) last.site
-  pub sound : Sound (lane f row) (stack_of cells (take count runs))
-  pub comes : push reaches (best_site f row) (cluster_of cells last) (stack_of cells (take count runs)) ≡ row_clusters f row (take past cells)
+  pub sound : Sound (lane f row) (stack_of cells runs)
+  pub comes : push reaches (best_site f row) (cluster_of cells last) (stack_of cells runs) ≡ row_clusters f row (take past cells)
 
 -- the last cluster is put on top of the others as it is
-abbrev pub Rests : (ℕ → ℕ → ℕ → ℕ) → Row → List Cell → List Run → ℕ → Run → Type 0
-Rests f row cells runs count last = push reaches (best_site f row) (cluster_of cells last) (stack_of cells (take count runs)) ≡ cluster_of cells last ∷ stack_of cells (take count runs)
+abbrev pub Rests : (ℕ → ℕ → ℕ → ℕ) → Row → List Cell → List Run → Run → Type 0
+Rests f row cells runs last = push reaches (best_site f row) (cluster_of cells last) (stack_of cells runs) ≡ cluster_of cells last ∷ stack_of cells runs
 
 -- so it is where there are none
-pub rests_alone : (f : ℕ → ℕ → ℕ → ℕ) (row : Row) (cells : List Cell) (runs : List Run) (count : ℕ) (last : Run) → count ≡ 0 → Rests f row cells runs count last
-rests_alone f row cells runs count last none = subst (λ n. Rests f row cells runs n last) (sym none) refl
+pub rests_alone : (f : ℕ → ℕ → ℕ → ℕ) (row : Row) (cells : List Cell) (runs : List Run) (last : Run) → length runs ≡ 0 → Rests f row cells runs last
+rests_alone f row cells [] last none = refl
+rests_alone f row cells (k ∷ ks) last none = absurd (omega arith)
 
-module _ (f : ℕ → ℕ → ℕ → ℕ) (row : Row) (cells : List Cell) (n : ℕ) (fair : Fair f) (a : Accepted row cells n) where
+module _ {f : ℕ → ℕ → ℕ → ℕ} {row : Row} {cells : List Cell} {n : ℕ} (fair : Fair f) (a : Accepted row cells n) where
   abbrev R : Lane Cell
   R = lane f row
 
@@ -109,8 +116,8 @@ module _ (f : ℕ → ℕ → ℕ → ℕ) (row : Row) (cells : List Cell) (n : 
       (settled_sound R (tight f row) (best_site f row) (best_is f row) (take i cells) (all_bend f row fair right (take i cells) (All-take Passes i cells a.pass)) room (omega arith))
 
   -- where a cell is taken: it is a cluster of its own on those before it
-  pub start : (i : ℕ) (runs : List Run) (count : ℕ) (last : Run) → i < length cells → Holds f row cells i runs count → AtBest f row cells i (i + 1) last → Pushing f row cells (i + 1) runs count last
-  start i runs count last within h b =
+  pub start : {i : ℕ} {runs : List Run} {last : Run} → i < length cells → Holds f row cells i runs → AtBest f row cells i (i + 1) last → Pushing f row cells (i + 1) runs last
+  start {i} {runs} {last} within h b =
       let right = a.ranged.right in
       let c : Cell = get_or cells i no_cell in
       let one : between i (i + 1) cells ≡ c ∷ [] = between_one cells i no_cell within in
@@ -120,38 +127,28 @@ module _ (f : ℕ → ℕ → ℕ → ℕ) (row : Row) (cells : List Cell) (n : 
       let sure : Certified R (c ∷ []) (best_site f row (c ∷ [])) = one_cell R (tight f row) (bends f row fair right c (All-get_or Passes cells i no_cell within a.pass)) best in
       let whole : cluster_of cells last ≡ at_best reaches (best_site f row) (c ∷ []) = is ∙ ap (at_best reaches (best_site f row)) one in
       record {
-        few = h.few;
         spans = b.spans;
-        tiled = subst (λ k. Tiled cells k (reverse (take count runs))) (sym b.begins) h.tiled;
+        tiled = subst (λ k. Tiled cells k (reverse runs)) (sym b.begins) h.tiled;
         sure = subst (λ k. Certified R k.cells k.site) (sym whole) sure;
         sound = subst (Sound R) (sym h.clusters) (prefix_sound i);
         comes =
-            ap (λ k. push reaches (best_site f row) k (stack_of cells (take count runs))) whole
+            ap (λ k. push reaches (best_site f row) k (stack_of cells runs)) whole
             ∙ ap (push reaches (best_site f row) (at_best reaches (best_site f row) (c ∷ []))) h.clusters
             ∙ sym (ap (row_clusters f row) (take_more cells i no_cell within) ∙ settle_push (best_site f row) (take i cells) c []);
       }
 
-  -- what is known where there is a cluster before the last one
-  module _ (past : ℕ) (runs : List Run) (count : ℕ) (last : Run) (within : past ≤ length cells) (some : 0 < count) (p : Pushing f row cells past runs count last) where
-    abbrev i : ℕ
-    i = count - 1
+  -- what is known where there is a cluster b before the last one, on others
+  module _ {past : ℕ} {runs others : List Run} {b last : Run} (within : past ≤ length cells) (top : OnTop runs others b) (p : Pushing f row cells past runs last) where
+    reversed : reverse runs ≡ b ∷ reverse others
+    reversed = ap reverse top.is ∙ pushed_run others b
 
-    abbrev b : Run
-    b = get_or runs i no_run
+    tiled_top : Tiled cells last.first (b ∷ reverse others)
+    tiled_top = subst (Tiled cells last.first) reversed p.tiled
 
-    inside : i < length runs
-    inside = omega (arith, p.few)
+    stack_top : stack_of cells runs ≡ cluster_of cells b ∷ stack_of cells others
+    stack_top = ap (map (cluster_of cells)) reversed
 
-    counted : count ≡ i + 1
-    counted = omega arith
-
-    tiled_top : Tiled cells last.first (b ∷ reverse (take i runs))
-    tiled_top = subst (Tiled cells last.first) (top_run runs i count counted inside) p.tiled
-
-    stack_top : stack_of cells (take count runs) ≡ cluster_of cells b ∷ stack_of cells (take i runs)
-    stack_top = ap (map (cluster_of cells)) (top_run runs i count counted inside)
-
-    sound_top : Sound R (cluster_of cells b ∷ stack_of cells (take i runs))
+    sound_top : Sound R (cluster_of cells b ∷ stack_of cells others)
     sound_top = subst (Sound R) stack_top p.sound
 
     -- the one before lies within the row
@@ -202,7 +199,7 @@ module _ (f : ℕ → ℕ → ℕ → ℕ) (row : Row) (cells : List Cell) (n : 
           record { not_after = omega arith; not_before = omega arith }
 
       -- the two as one are pushed on those before them
-      pub again : (r : Run) → AtBest f row cells b.first last.past r → Pushing f row cells past runs i r
+      pub again : (r : Run) → AtBest f row cells b.first last.past r → Pushing f row cells past others r
       again r best =
           let both : List Cell = part cells b ++ part cells last in
           let whole : cluster_of cells r ≡ at_best reaches (best_site f row) both = at_best_is b.first last.past r best ∙ ap (at_best reaches (best_site f row)) (sym joined_cells) in
@@ -210,11 +207,10 @@ module _ (f : ℕ → ℕ → ℕ → ℕ) (row : Row) (cells : List Cell) (n : 
           let bend = subst (AllBend R) (sym joined_cells) (all_bend f row fair a.ranged.right (between b.first last.past cells) known.pass) in
           let sure = join R some_b some_last sound_top.0.sure p.sure touch best_joined (tight f row) (omega arith) bend in
           let test : ltb last.site (b.site + widths (part cells b)) ≡ true = lt-ltb last.site (b.site + widths (part cells b)) (omega (arith, tiled_top.0.wide)) in
-          let rest = stack_of cells (take i runs) in
+          let rest = stack_of cells others in
           record {
-            few = omega (arith, p.few);
             spans = record { starts = best.spans.starts; ends = best.spans.ends ∙ p.spans.ends; wide = best.spans.wide };
-            tiled = subst (λ j. Tiled cells j (reverse (take i runs))) (sym best.begins) tiled_top.1;
+            tiled = subst (λ j. Tiled cells j (reverse others)) (sym best.begins) tiled_top.1;
             sure = subst (λ k. Certified R k.cells k.site) (sym whole) sure;
             sound = sound_top.1;
             comes =
@@ -225,48 +221,20 @@ module _ (f : ℕ → ℕ → ℕ → ℕ) (row : Row) (cells : List Cell) (n : 
           }
 
     -- where it does not overlap, it is put on top
-    pub rests : b.site + b.width ≤ last.site → Rests f row cells runs count last
+    pub rests : b.site + b.width ≤ last.site → Rests f row cells runs last
     rests clear =
-        let rest = stack_of cells (take i runs) in
+        let rest = stack_of cells others in
         let both : List Cell = part cells b ++ part cells last in
         let test : ltb last.site (b.site + widths (part cells b)) ≡ false = le-ltb last.site (b.site + widths (part cells b)) (omega (arith, tiled_top.0.wide)) in
         ap (push reaches (best_site f row) (cluster_of cells last)) stack_top
         ∙ cond-false (ltb last.site (b.site + widths (part cells b))) (push reaches (best_site f row) (at_best reaches (best_site f row) both) rest) (cluster_of cells last ∷ cluster_of cells b ∷ rest) test
         ∙ sym (ap (λ s. cluster_of cells last ∷ s) stack_top)
 
-  -- the last cluster written behind those that it rests on
-  pub finish : (past : ℕ) (runs : List Run) (count : ℕ) (last : Run) → past ≤ length cells → length cells ≤ length runs → Pushing f row cells past runs count last → Rests f row cells runs count last → Holds f row cells past (set runs count last) (count + 1)
-  finish past runs count last within room p rested =
-      let below = few_runs cells runs count last.first p.few p.tiled in
-      let starts = p.spans.starts in
-      let ends = p.spans.ends in
-      let long = length-set runs count last in
-      let under : count < length runs = omega arith in
-      let top = pushed_run runs count last under in
+  -- the last cluster put on those that it rests on
+  pub finish : {past : ℕ} {runs : List Run} {last : Run} → Pushing f row cells past runs last → Rests f row cells runs last → Holds f row cells past (runs ++ last ∷ [])
+  finish {past} {runs} {last} p rested =
+      let top = pushed_run runs last in
       record {
-        few = omega arith;
         tiled = subst (Tiled cells past) (sym top) (p.spans, p.tiled);
         clusters = ap (map (cluster_of cells)) top ∙ sym rested ∙ p.comes;
       }
-
--- The last of the first i runs, where they follow one another up to `past`.
-pub top_spans : (cells : List Cell) (runs : List Run) (i past : ℕ) → 0 < i → i ≤ length runs → Tiled cells past (reverse (take i runs)) → Spans cells past (get_or runs (i - 1) no_run) × Tiled cells (get_or runs (i - 1) no_run).first (reverse (take (i - 1) runs))
-top_spans cells runs i past some few tiled = subst (Tiled cells past) (top_run runs (i - 1) i (omega arith) (omega arith)) tiled
-
--- The sites of the last of the first i runs written before those that are written already.
-pub lay_more : (cells : List Cell) (runs : List Run) (i past : ℕ) (sites whole : List ℕ) → 0 < i → i ≤ length runs → length sites ≡ length cells → past ≤ length cells → Tiled cells past (reverse (take i runs)) → laid abut (stack_of cells (take i runs)) ++ drop past sites ≡ whole →
-    laid abut (stack_of cells (take (i - 1) runs))
-    ++ drop (get_or runs (i - 1) no_run).first (take (get_or runs (i - 1) no_run).first sites ++ (abut (part cells (get_or runs (i - 1) no_run)) (get_or runs (i - 1) no_run).site ++ drop (get_or runs (i - 1) no_run).past sites)) ≡ whole
-lay_more cells runs i past sites whole some few each within tiled rest =
-    let k : Run = get_or runs (i - 1) no_run in
-    let own = (top_spans cells runs i past some few tiled).0 in
-    let before : List ℕ = laid abut (stack_of cells (take (i - 1) runs)) in
-    let here : List ℕ = abut (part cells k) k.site in
-    let starts = own.starts in
-    let ends = own.ends in
-    let short : length (take k.first sites) ≡ k.first = length-take-le k.first sites (omega arith) in
-    let top : laid abut (stack_of cells (take i runs)) ≡ before ++ here = ap (λ l. laid abut (map (cluster_of cells) l)) (top_run runs (i - 1) i (omega arith) (omega arith)) in
-    ap (λ l. before ++ l) (drop_at (take k.first sites) (here ++ drop k.past sites) k.first short ∙ ap (λ n. here ++ drop n sites) ends)
-    ∙ sym (append_assoc before here (drop past sites))
-    ∙ sym (ap (λ l. l ++ drop past sites) top)
-    ∙ rest

@@ -6,7 +6,7 @@
 --   stack_of         runs as clusters, the last one first
 --   Tiled            runs that follow one another from the first cell on, each with its width
 --   InPlaces         a run that ends within the places, which go up to 65,535
---   Holds            the first runs of a table are the clusters of a row's first cells
+--   Holds            the runs of a table are the clusters of a row's first cells
 use Rattle.std.specs.Prelude.{◌≡◌, ℕ, ◌+◌, ◌<◌, ◌≤◌, List, [], ◌∷◌, map, reverse, length, take, None}
 use Rattle.std.specs.List.{between}
 use Rattle.row.specs.Clusters.{Cluster}
@@ -65,8 +65,7 @@ abbrev pub Tiled : List Cell → ℕ → List Run → Type 0
 Tiled cells past [] = past ≡ 0
 Tiled cells past (k ∷ ks) = Spans cells past k × Tiled cells k.first ks
 
--- the first `count` runs of a table are the clusters of a row's first `taken` cells
-pub record Holds (price : ℕ → ℕ → ℕ → ℕ) (row : Row) (cells : List Cell) (taken : ℕ) (runs : List Run) (count : ℕ) : Type 0 where
-  pub few : count ≤ length runs
-  pub tiled : Tiled cells taken (reverse (take count runs))
-  pub clusters : stack_of cells (take count runs) ≡ row_clusters price row (take taken cells)
+-- the runs of a table are the clusters of a row's first `taken` cells
+pub record Holds (price : ℕ → ℕ → ℕ → ℕ) (row : Row) (cells : List Cell) (taken : ℕ) (runs : List Run) : Type 0 where
+  pub tiled : Tiled cells taken (reverse runs)
+  pub clusters : stack_of cells runs ≡ row_clusters price row (take taken cells)

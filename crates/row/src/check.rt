@@ -5,20 +5,22 @@ ghost use Rattle.row.specs.Records.{cell_fault, row_fault, widths};
 ghost use Rattle.row.specs.Refusals.{fault_number, number_of, next_refusal, cells_refusal, set_refusal};
 ghost use Rattle.row.specs.Checked.{checked};
 
-use crate::{Cell, Fault, Refusal, Row};
+use crate::{Cell, Fault, MOST_CELLS, Refusal, Row};
+use measure::{LAST_PLACE, MOST_WEIGHT};
+
+// The greatest line, width and number.
+const LAST_LINE: u32 = 4_095;
+
+const MOST_WIDTH: u32 = 1_000;
+
+const LAST_NUMBER: u32 = 65_535;
 
 impl Fault {
     // The number of a field that is outside its range.
     pub fn number(self) -> u32
         ensures { result ≡ fault_number self }
     {
-        match self {
-            Fault::Wanted => 1,
-            Fault::Width => 2,
-            Fault::Weight => 3,
-            Fault::Number => 4,
-            Fault::Row => 9,
-        }
+        self as u32
     }
 }
 
@@ -49,7 +51,7 @@ impl Row {
     pub fn check(&self) -> Result<(), Fault>
         ensures { checked result ≡ row_fault self.now }
     {
-        if self.line > 4_095 || self.left >= self.right || self.right > 65_535 {
+        if self.line > LAST_LINE || self.left >= self.right || self.right > LAST_PLACE {
             return Err(Fault::Row);
         }
         Ok(())
@@ -61,16 +63,16 @@ impl Cell {
     pub fn check(&self) -> Result<(), Fault>
         ensures { checked result ≡ cell_fault self.now }
     {
-        if self.wanted.site > 65_535 || self.wanted.line > 4_095 {
+        if self.wanted.site > LAST_PLACE || self.wanted.line > LAST_LINE {
             return Err(Fault::Wanted);
         }
-        if self.width == 0 || self.width > 1_000 {
+        if !(1..=MOST_WIDTH).contains(&self.width) {
             return Err(Fault::Width);
         }
-        if self.weight == 0 || self.weight > 1_000 {
+        if !(1..=MOST_WEIGHT).contains(&self.weight) {
             return Err(Fault::Weight);
         }
-        if self.number > 65_535 {
+        if self.number > LAST_NUMBER {
             return Err(Fault::Number);
         }
         Ok(())
@@ -105,11 +107,7 @@ fn widths_of(cells: &[Cell]) -> u64
     requires few { length cells.now ≤ 1024 }
     ensures { result ≡ widths cells.now }
 {
-    let mut sum: u64 = 0;
-    for cell in cells {
-        sum += cell.width as u64;
-    }
-    sum
+    cells.iter().map(|cell| cell.width as u64).sum()
 }
 
 // Refuses what `set` refuses: a row, cells and a number of sites.
@@ -117,7 +115,7 @@ pub(crate) fn check(row: Row, cells: &[Cell], sites: usize) -> Result<(), Refusa
     ensures { checked result ≡ set_refusal row cells.now sites }
 {
     row.check()?;
-    if cells.len() > 1_024 || sites != cells.len() {
+    if cells.len() > MOST_CELLS || sites != cells.len() {
         return Err(Refusal::Size);
     }
     check_cells(cells)?;

@@ -5,8 +5,12 @@ mod check;
 mod cluster;
 mod order;
 mod setting;
+mod task;
 
 pub use setting::set;
+
+// How many cells a row is set with at most.
+pub(crate) const MOST_CELLS: usize = 1_024;
 
 // A site on a line.
 #[derive(Clone, Copy, PartialEq, Eq, Debug)]
@@ -32,14 +36,14 @@ pub struct Row {
     pub right: u32,
 }
 
-// A field of a cell or a row that is outside its range.
+// A field of a cell or a row that is outside its range, under its number.
 #[derive(Clone, Copy, PartialEq, Eq, Debug)]
 pub enum Fault {
-    Wanted,
-    Width,
-    Weight,
-    Number,
-    Row,
+    Wanted = 1,
+    Width = 2,
+    Weight = 3,
+    Number = 4,
+    Row = 9,
 }
 
 // Why a row is not set.

@@ -11,8 +11,7 @@ impl Cell {
     pub fn is_before(&self, other: &Cell) -> bool
         ensures { result ≡ before self.now other.now }
     {
-        self.wanted.site < other.wanted.site
-            || self.wanted.site == other.wanted.site && self.number < other.number
+        (self.wanted.site, self.number) < (other.wanted.site, other.number)
     }
 }
 
@@ -23,6 +22,6 @@ impl Ranked for Row {
     ghost chain = { Prim.search rules };
 
     fn is_ahead(&self, other: &Row) -> bool {
-        self.line < other.line || self.line == other.line && self.left < other.left
+        (self.line, self.left) < (other.line, other.left)
     }
 }

@@ -1,15 +1,14 @@
 // Setting one row: the checks, the clusters, the sites and their cost.
-ghost use Rattle.std.specs.Prelude.{◌≡◌, ◌+◌, ◌≤◌, ◌++◌, reverse, length, take, drop, IfOk};
-ghost use Rattle.std.specs.List.{AllByRecursion};
-ghost use Rattle.row.specs.Clusters.{laid};
+ghost use Rattle.std.specs.Prelude.{◌≡◌, ◌+◌, ◌≤◌, ◌++◌, length, take, drop, IfOk};
 ghost use Rattle.row.specs.Records.{widths};
 ghost use Rattle.row.specs.Settings.{Cheapest};
 ghost use Rattle.row.specs.Sites.{abut, row_sites, sites_cost};
-ghost use Rattle.row.specs.Stack.{Passes, Ready, InPlaces, Spans, Tiled, part, stack_of};
+ghost use Rattle.row.specs.Stack.{InPlaces, Spans, part};
 ghost use Rattle.row.specs.Task.{set_answer, set_sites};
 
 use crate::check::check;
-use crate::cluster::{Cluster, settle};
+use crate::cluster::Cluster;
+use crate::task::Task;
 use crate::{Cell, Refusal, Row};
 use measure::Measure;
 
@@ -28,8 +27,8 @@ fn abut_from(cells: &[Cell], start: u32, sites: &mut [u32])
 
 // Writes the sites of the cells of one cluster, and leaves the others.
 fn lay_one(cells: &[Cell], cluster: Cluster, sites: &mut [u32])
-    requires each { length sites.old ≡ length cells.now }
     requires within { cluster.past ≤ length cells.now }
+    requires room { cluster.past ≤ length sites.old }
     requires spans { Spans cells.now cluster.past cluster }
     requires inside { InPlaces cluster }
     ensures { sites.new ≡ take cluster.first sites.old ++ (abut (part cells.now cluster) cluster.site ++ drop cluster.past sites.old) }
@@ -39,44 +38,19 @@ fn lay_one(cells: &[Cell], cluster: Cluster, sites: &mut [u32])
     abut_from(&cells[first..past], cluster.site, &mut sites[first..past]);
 }
 
-// Writes the sites of the cells of all clusters, from the last cluster on.
-fn lay_out(cells: &[Cell], clusters: &[Cluster], sites: &mut [u32])
-    requires each { length sites.old ≡ length cells.now }
-    requires tiled { Tiled cells.now (length cells.now) (reverse clusters.now) }
-    requires inside { AllByRecursion InPlaces clusters.now }
-    ensures { sites.new ≡ laid abut (stack_of cells.now clusters.now) }
-{
-    for i in (0..clusters.len()).rev() {
-        lay_one(cells, clusters[i], sites);
+impl<'a, M: Measure> Task<'a, M> {
+    // Fills `sites` with the sites of the row's cells, and answers what they cost.
+    fn set(&self, sites: &mut [u32]) -> u64
+        requires { length sites.old ≡ length self.now.cells.now }
+        ensures answer { result ≡ sites_cost (M.price self.now.measure.now) self.now.cells.now (row_sites (M.price self.now.measure.now) self.now.row self.now.cells.now) }
+        ensures after { sites.new ≡ row_sites (M.price self.now.measure.now) self.now.row self.now.cells.now }
+    {
+        let clusters = self.clusters();
+        for cluster in clusters.as_slice() {
+            lay_one(self.cells, *cluster, sites);
+        }
+        self.cost_at(sites)
     }
-}
-
-// The cost of cells at sites.
-fn cost_of<M: Measure>(measure: &M, cells: &[Cell], sites: &[u32]) -> u64
-    requires few { length cells.now ≤ 1024 }
-    requires passed { AllByRecursion Passes cells.now }
-    requires each { length sites.now ≡ length cells.now }
-    requires inside { AllByRecursion (λ x. x ≤ 65535) sites.now }
-    ensures { result ≡ sites_cost (M.price measure.now) cells.now sites.now }
-{
-    let mut sum: u64 = 0;
-    for (i, cell) in cells.iter().enumerate() {
-        sum += measure.price_at(cell.wanted.site as u16, cell.weight as u16, sites[i] as u16);
-    }
-    sum
-}
-
-// Sets a row that passes the checks.
-fn set_checked<M: Measure>(measure: &M, row: Row, cells: &[Cell], sites: &mut [u32]) -> u64
-    requires ready { Ready row cells.now }
-    requires each { length sites.old ≡ length cells.now }
-    ensures answer { result ≡ sites_cost (M.price measure.now) cells.now (row_sites (M.price measure.now) row cells.now) }
-    ensures after { sites.new ≡ row_sites (M.price measure.now) row cells.now }
-{
-    let mut clusters = [Cluster::NONE; 1_024];
-    let count = settle(measure, row, cells, &mut clusters);
-    lay_out(cells, &clusters[0..count], sites);
-    cost_of(measure, cells, sites)
 }
 
 // Sets a row: fills `sites` with the sites of its cells, and answers what they cost.
@@ -92,5 +66,10 @@ pub fn set<M: Measure>(
     ensures cheapest { IfOk result (λ cost. Cheapest (M.price measure.now) row cells.now sites.new × (cost ≡ sites_cost (M.price measure.now) cells.now sites.new)) }
 {
     check(row, cells, sites.len())?;
-    Ok(set_checked(measure, row, cells, sites))
+    let task = Task {
+        measure,
+        row,
+        cells,
+    };
+    Ok(task.set(sites))
 }

@@ -12,8 +12,8 @@ returns g c =
     let row = c.args.row in
     let none = c.in_ok-check.ensures in
     let f = g.M.Measure.price c.args.measure.now in
-    let written = c.set_checked.ensures.after in
-    let cost = c.set_checked.ensures.answer in
+    let written = c.set.ensures.after in
+    let cost = c.set.ensures.answer in
     record {
       answer = ap Ok cost ∙ ap (λ refused. granted refused (sites_cost f cells (row_sites f row cells))) none;
       after = written ∙ ap (λ refused. changed refused (row_sites f row cells) c.args.sites.now) none;

@@ -2,9 +2,10 @@ use Rattle.std.proofs.Common.{◌≡◌, ℕ, ◌+◌, ◌-◌, ◌/◌, ◌<◌
 use lib.Signed.{le_z, mag}
 use Rattle.std.proofs.lemmas.Int.{to_z-of_z}
 use Rattle.row.specs.Sites.{climbs, least}
+use Rattle.row.proofs.Accepted.{ready_known}
 use Rattle.row.proofs.Least.{least_is, narrowed, after}
 use Rattle.row.proofs.Rises.{climbs_on}
-use Rattle.row.proofs.cluster.best_between.Goals as goal
+use Rattle.row.proofs.task.Task.best_between.Goals as goal
 
 -- a test of a signed value that was returned is a test of the value
 tested : (r z : ℤ) (b : Bool) → mag r < 9223372036854775808 → r ≡ z → le_z (pos 0) (to_z w64 (of_z w64 r)) ≡ b → le_z (pos 0) z ≡ b
@@ -20,11 +21,11 @@ loop-from-preserved g c =
     let from = c.loop-from.from in
     let to = c.loop-from.to in
     let middle : ℕ = from + (to - from) / 2 in
-    let cells = c.args.cells.now in
-    let test : ℕ → Bool = climbs (g.M.Measure.price c.args.measure.now) cells in
+    let cells = c.args.self.now.cells.now in
+    let test : ℕ → Bool = climbs (g.M.Measure.price c.args.self.now.measure.now) cells in
     let inv = c.loop-from.invariant.0 in
-    let fails : test middle ≡ false = tested c.rise_of-climbs.result _ false c.rise_of-climbs.type_inv c.rise_of-climbs.ensures c.if-climbs.false in
-    let fair = g.met.M.Measure.fair c.args.measure.now in
+    let fails : test middle ≡ false = tested c.rise_from-climbs.result _ false c.rise_from-climbs.type_inv c.rise_from-climbs.ensures c.if-climbs.false in
+    let fair = g.met.M.Measure.fair c.args.self.now.measure.now in
     let further : middle < least test c.args.low (c.args.high - c.args.low) =
-    after from to middle _ inv (omega arith) fails (λ t u at up below. climbs_on fair cells t u c.requires.passed up (omega arith)) in
+    after from to middle _ inv (omega arith) fails (λ t u at up below. climbs_on fair cells t u (ready_known c.args.self.now.row c.args.self.now.cells.now c.args.self.now.ready).pass up (omega arith)) in
     (narrowed from to (middle + 1) to _ inv (omega arith) (omega arith) inv.upto (omega arith), c.loop-from.invariant.1)

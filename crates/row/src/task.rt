@@ -1,0 +1,87 @@
+// The task of setting a row: what its cells' moves cost, where they rise, and where they stand best together.
+ghost use Rattle.std.specs.Prelude.{◌≡◌, ◌+◌, ◌-◌, ◌≤◌, length};
+ghost use Rattle.std.specs.List.{AllByRecursion, between};
+ghost use Rattle.std.proofs.Props.{props};
+ghost use Rattle.row.specs.Records.{widths};
+ghost use Rattle.row.specs.Sites.{cluster_rise, climbs, least, sites_cost};
+ghost use Rattle.row.specs.Stack.{Ready};
+
+use crate::{Cell, Row};
+use measure::Measure;
+
+// A row and its cells, which are not refused, and the measure of what their moves cost.
+#[derive(Drop)]
+pub(crate) struct Task<'a, M: Measure> {
+    pub(crate) measure: &'a M,
+    pub(crate) row: Row,
+    pub(crate) cells: &'a [Cell],
+    ghost ready: { Ready row cells.now } by { Prim.hlevel props },
+}
+
+impl<'a, M: Measure> Task<'a, M> {
+    // The same task with the cells from `first` to `past` - 1 alone.
+    pub(crate) fn part(&self, first: usize, past: usize) -> Task<'a, M>
+        requires some { first ≤ past }
+        requires within { past ≤ length self.now.cells.now }
+        ensures measure { result.measure.now ≡ self.now.measure.now }
+        ensures row { result.row ≡ self.now.row }
+        ensures cells { result.cells.now ≡ between first past self.now.cells.now }
+    {
+        Task {
+            measure: self.measure,
+            row: self.row,
+            cells: &self.cells[first..past],
+        }
+    }
+
+    // The rise of the cells where they abut from `start` on.
+    fn rise_from(&self, start: u32) -> i64
+        requires { start + widths self.now.cells.now ≤ 65535 }
+        ensures { result ≡ cluster_rise (M.price self.now.measure.now) self.now.cells.now start }
+    {
+        let mut sum: i64 = 0;
+        let mut site = start;
+        for cell in self.cells {
+            sum += self
+                .measure
+                .step_at(cell.wanted.site as u16, cell.weight as u16, site as u16);
+            site += cell.width;
+        }
+        sum
+    }
+
+    // The least start from `low` to `high` that is `high` or where the rise of the cells is at least 0.
+    pub(crate) fn best_between(&self, low: u32, high: u32) -> u32
+        requires some { low ≤ high }
+        requires inside { high + widths self.now.cells.now ≤ 65535 }
+        ensures { result ≡ least (climbs (M.price self.now.measure.now) self.now.cells.now) low (high - low) }
+    {
+        let mut from = low;
+        let mut to = high;
+        // A loop, since std's `partition_point` halves a slice and this halves a range of sites.
+        while from < to {
+            let middle = from + (to - from) / 2;
+            let climbs = self.rise_from(middle) >= 0;
+            if climbs {
+                to = middle;
+            } else {
+                from = middle + 1;
+            }
+        }
+        from
+    }
+
+    // The cost of the cells at sites.
+    pub(crate) fn cost_at(&self, sites: &[u32]) -> u64
+        requires { AllByRecursion (λ x. x ≤ 65535) sites.now }
+        ensures { result ≡ sites_cost (M.price self.now.measure.now) self.now.cells.now sites.now }
+    {
+        let mut sum: u64 = 0;
+        for (cell, site) in self.cells.iter().zip(sites) {
+            sum += self
+                .measure
+                .price_at(cell.wanted.site as u16, cell.weight as u16, *site as u16);
+        }
+        sum
+    }
+}
