@@ -1,14 +1,17 @@
 -- How far a record's parts reach: forward, and not past the job's end.
-use Rattle.std.proofs.Common.{◌≡◌, ℕ, zero, suc, ◌+◌, ◌-◌, ◌≤◌, Bool, true, false, cond, eqb, ltb, List, length, IfSome, Ok, Err, Option, sym, ap, subst, arith}
+use Rattle.std.proofs.Common.{◌≡◌, ℕ, zero, suc, ◌+◌, ◌-◌, ◌≤◌, Bool, true, false, cond, eqb, ltb, List, length, IfSome, Ok, Err, Option, Result, sym, ap, subst, arith}
 use Rattle.std.proofs.lemmas.List.Edits.{length-between}
 use Rattle.std.proofs.lemmas.Bool.{cond_both, ltb-true}
 use Rattle.std.specs.List.{between}
-use Rattle.job.specs.Format.{Named, CellNamed, Content, allows, map_byte, stands, field, printable, good_bytes, text, name, name_field, row_part, cell_part, withdrawal_part, after_kind, read_record}
+use Rattle.job.specs.Format.{Named, CellNamed, Content, allows, map_byte, stands, field, printable, good_bytes, text, name, name_field, row_part, cell_part, withdrawal_part, kind_named, kind_part, kind_at, after_kind, read_record}
 use Rattle.job.specs.Format.Content.{row, place, withdraw, try}
 use Rattle.job.specs.Parts.{Part, taken, after, made, byte, number}
 use Rattle.job.specs.Reading.{InJob, NameInJob}
 use Rattle.job.specs.declared.cursor.map.Form.{Form}
 use Rattle.job.specs.declared.cursor.map.Form.TheVariants as form
+use Rattle.job.specs.declared.kind.Kind.{Kind}
+use Rattle.job.specs.declared.kind.Kind.TheVariants as kind
+use Rattle.job.specs.declared.record.Cause.{Cause}
 
 -- what holds of a part's value and of the place after it, where there is one
 abbrev Yields : {X : Type 0} → Part X → (X → ℕ → Type 0) → Type 0
@@ -131,21 +134,28 @@ module _ (job : List ℕ) where
   made_gives : {X Y : Type 0} (f : X → Y) (at : ℕ) (part : Part X) (Q : X → Type 0) (P : Y → Type 0) → Gives job at part Q → ((x : X) → Q x → P (f x)) → Gives job at (made f part) P
   made_gives f at part Q P is so = both at part _ Q P is (λ x next in_job q. (stays next in_job, so x q))
 
-  kind_gives : (at kind next : ℕ) → Gives job (next + 1) (after_kind job at kind next) (NameInJob job)
-  kind_gives at kind next =
-      let Q : Content → ℕ → Type 0 = λ c end. Reaches job (next + 1) end × NameInJob job c in
-      cond_yields (eqb kind 1) _ _ Q (λ e. made_gives row (next + 1) (row_part job next) Any (NameInJob job) (row_gives next) (λ r is. tt)) (λ e.
-      cond_yields (eqb kind 2) _ _ Q (λ e. made_gives place (next + 1) (cell_part job next) (λ c. Lies c.name) (NameInJob job) (cell_gives next) (λ c is. is)) (λ e.
-      cond_yields (eqb kind 3) _ _ Q (λ e. made_gives withdraw (next + 1) (withdrawal_part job next) Any (NameInJob job) (withdrawal_gives next) (λ n is. tt)) (λ e.
-      cond_yields (eqb kind 4) _ _ Q (λ e. made_gives try (next + 1) (cell_part job next) (λ c. Lies c.name) (NameInJob job) (cell_gives next) (λ c is. is)) (λ e. tt))))
+  kind_part_gives : (at next : ℕ) → next ≤ length job → (r : Result Kind Cause) → Gives job next (kind_part at next r) Any
+  kind_part_gives at next in_job (Ok kind) = (stays next in_job, tt)
+  kind_part_gives at next in_job (Err cause) = tt
+
+  kind_gives : (at : ℕ) → Gives job (at + 1) (kind_at job at) Any
+  kind_gives at =
+      both (at + 1) (byte job at) _ Any Any (byte_gives at)
+      (λ number next in_job _. kind_part_gives at next in_job (kind_named number))
+
+  fields_give : (kind : Kind) (next : ℕ) → Gives job (next + 1) (after_kind job kind next) (NameInJob job)
+  fields_give kind.Row next = made_gives row (next + 1) (row_part job next) Any (NameInJob job) (row_gives next) (λ r is. tt)
+  fields_give kind.Place next = made_gives place (next + 1) (cell_part job next) (λ c. Lies c.name) (NameInJob job) (cell_gives next) (λ c is. is)
+  fields_give kind.Withdraw next = made_gives withdraw (next + 1) (withdrawal_part job next) Any (NameInJob job) (withdrawal_gives next) (λ n is. tt)
+  fields_give kind.Try next = made_gives try (next + 1) (cell_part job next) (λ c. Lies c.name) (NameInJob job) (cell_gives next) (λ c is. is)
 
   -- a record takes at least its kind and its map
   record_gives : (at : ℕ) → Gives job (at + 2) (read_record job at) (NameInJob job)
   record_gives at =
-      after_yields (byte job at) (after_kind job at) _ (λ c end. Reaches job (at + 2) end × NameInJob job c) (byte_gives at)
+      after_yields (kind_at job at) (after_kind job) _ (λ c end. Reaches job (at + 2) end × NameInJob job c) (kind_gives at)
       (λ kind next found.
       let first = found.0 in
-      weaker (after_kind job at kind next) _ _ (kind_gives at kind next)
+      weaker (after_kind job kind next) _ _ (fields_give kind next)
       (λ c end found. let second = found.0 in (record { forth = omega arith; within = second.within }, found.1)))
 
   -- the same of a record that is there

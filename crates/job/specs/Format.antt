@@ -9,14 +9,20 @@
 --   good_bytes       bytes that a name may have, one after another
 --   name             the name at a place
 --   row_part, cell_part, withdrawal_part   what follows the kind of a row, of a cell to place or try, and of a withdrawal
+--   kind_named       the kind that a number names
+--   kind_at          the kind at a place
+--   after_kind       what follows a record's kind
 --   read_record      the record at a place: its kind, its map and its fields
-use Rattle.std.specs.Prelude.{ℕ, zero, suc, ◌/◌, ◌%◌, ◌^◌, Bool, cond, ◌&&◌, List, Some, None, Option, ◌==◌, nat_le, nat_lt}
+use Rattle.std.specs.Prelude.{ℕ, zero, suc, ◌/◌, ◌%◌, ◌^◌, Bool, cond, ◌&&◌, List, Some, None, Ok, Err, Option, Result, ◌==◌, nat_le, nat_lt}
 use Rattle.std.specs.List.{between}
 use Rattle.row.specs.declared.Cell.{Cell}
 use Rattle.row.specs.declared.Row.{Row}
 use Rattle.job.specs.Parts.{Part, taken, flawed, after, made, byte, number}
 use Rattle.job.specs.declared.cursor.map.Form.{Form}
 use Rattle.job.specs.declared.cursor.map.Form.TheVariants as form
+use Rattle.job.specs.declared.kind.Kind.{Kind}
+use Rattle.job.specs.declared.kind.Kind.TheVariants as kind
+use Rattle.job.specs.declared.record.Cause.{Cause}
 use Rattle.job.specs.declared.record.Cause.TheVariants.{UnknownKind, WrongMap, BadName}
 
 -- a name: its bytes, and the place of the first of them
@@ -100,15 +106,31 @@ cell_part job at =
 abbrev pub withdrawal_part : List ℕ → ℕ → Part ℕ
 withdrawal_part job at = after (map_byte form.Withdrawal job at) (λ map next. field map 0 0 job next)
 
--- what follows a record's kind, which stands at a place: 1 a row, 2 a cell to place, 3 a withdrawal, 4 a cell to try
-abbrev pub after_kind : List ℕ → ℕ → ℕ → ℕ → Part Content
-after_kind job at kind next =
-    cond (kind == 1) (made row (row_part job next))
-    (cond (kind == 2) (made place (cell_part job next))
-    (cond (kind == 3) (made withdraw (withdrawal_part job next))
-    (cond (kind == 4) (made try (cell_part job next))
-    (flawed UnknownKind at))))
+-- the kind that a number names: 1 a row, 2 a cell to place, 3 a withdrawal, 4 a cell to try
+abbrev pub kind_named : ℕ → Result Kind Cause
+kind_named number =
+    cond (number == 1) (Ok kind.Row)
+    (cond (number == 2) (Ok kind.Place)
+    (cond (number == 3) (Ok kind.Withdraw)
+    (cond (number == 4) (Ok kind.Try)
+    (Err UnknownKind))))
+
+-- a kind that stands at a place, or the flaw there
+abbrev pub kind_part : ℕ → ℕ → Result Kind Cause → Part Kind
+kind_part at next (Ok kind) = taken kind next
+kind_part at next (Err cause) = flawed cause at
+
+-- the kind at a place
+abbrev pub kind_at : List ℕ → ℕ → Part Kind
+kind_at job at = after (byte job at) (λ number next. kind_part at next (kind_named number))
+
+-- what follows a record's kind
+abbrev pub after_kind : List ℕ → Kind → ℕ → Part Content
+after_kind job kind.Row next = made row (row_part job next)
+after_kind job kind.Place next = made place (cell_part job next)
+after_kind job kind.Withdraw next = made withdraw (withdrawal_part job next)
+after_kind job kind.Try next = made try (cell_part job next)
 
 -- the record at a place
 abbrev pub read_record : List ℕ → ℕ → Part Content
-read_record job at = after (byte job at) (after_kind job at)
+read_record job at = after (kind_at job at) (after_kind job)

@@ -6,12 +6,12 @@
 --   opened           an answer of `open`, with the job so
 use Rattle.std.specs.Prelude.{ℕ, cond, List, length, Ok, Err, Result, ◌==◌, nat_le, slice_index}
 use Rattle.std.specs.Result.{result_map_both}
+use Rattle.measure.specs.declared.name.MeasureName.{MeasureName}
+use Rattle.measure.specs.declared.name.MeasureName.TheVariants.{Squared, Plain}
 use Rattle.job.specs.declared.opening.Job.{Job}
 use Rattle.job.specs.declared.record.Cause.{Cause}
 use Rattle.job.specs.declared.record.Cause.TheVariants.{TooLong, EndsEarly, UnknownMeasure}
 use Rattle.job.specs.declared.record.Fault.{Fault}
-use Rattle.job.specs.declared.record.MeasureName.{MeasureName}
-use Rattle.job.specs.declared.record.MeasureName.TheVariants.{Squared, Plain}
 
 -- an open job: its bytes, and the measure that it names
 pub record Opened : Type 0 where

@@ -2,6 +2,7 @@
 --   Moved            a cursor stands further on in the same job, and not past its end
 --   Reads            a call answered a part of the job, and moved to the place after it
 --   viewed           an answer whose value is seen as something else
+--   bits             a map, by its bits
 --   named            a name, by its bytes and its place
 --   content          what a record says, with its name so
 use Rattle.std.specs.Prelude.{◌≡◌, ℕ, ◌≤◌, List, length, Ok, Err, Option, Result}
@@ -12,6 +13,7 @@ use Rattle.job.specs.Format.Content.{row, place, withdraw, try}
 use Rattle.job.specs.Parts.{Part, taken}
 use Rattle.job.specs.declared.cursor.Cursor.{Cursor}
 use Rattle.job.specs.declared.cursor.Flaw.{Flaw}
+use Rattle.job.specs.declared.cursor.map.Map.{Map}
 use Rattle.job.specs.declared.record.Name.{Name}
 use Rattle.job.specs.declared.record.Record.{Record}
 use Rattle.job.specs.declared.record.Record.TheVariants as variant
@@ -36,6 +38,10 @@ pub record Reads {X : Type 0} (part : List ℕ → ℕ → Part X) (from : Curso
 abbrev pub viewed : {X Y : Type 0} → (X → Y) → Result X Flaw → Result Y Flaw
 viewed view (Ok x) = Ok (view x)
 viewed view (Err flaw) = Err flaw
+
+-- a map, by its bits
+abbrev pub bits : Map → ℕ
+bits map = map.bits
 
 -- a name, by its bytes and its place
 abbrev pub named : Name → Named

@@ -1,8 +1,10 @@
 // A place in a job, which moves over what is read there.
+ghost use Rattle.std.specs.Prelude.{◌≡◌};
 ghost use Rattle.job.specs.Parts.{byte, number};
+ghost use Rattle.job.specs.Reading.{fault_at};
 ghost use Rattle.job.specs.Reads.{Reads};
 
-use crate::record::Cause;
+use crate::record::{Cause, Fault};
 
 mod map;
 mod name;
@@ -13,6 +15,28 @@ mod records;
 pub(crate) struct Flaw {
     pub(crate) cause: Cause,
     pub(crate) place: usize,
+}
+
+impl Flaw {
+    // This flaw, in the record with an index.
+    pub(crate) fn of_record(self, index: usize) -> Fault
+        ensures { result ≡ fault_at index self }
+    {
+        Fault {
+            cause: self.cause,
+            index,
+            place: self.place,
+        }
+    }
+}
+
+impl Cause {
+    // This cause, because of the byte at a place.
+    fn at(self, place: usize) -> Flaw
+        ensures { result ≡ record { cause = self; place = place } }
+    {
+        Flaw { cause: self, place }
+    }
 }
 
 #[derive(Clone, Copy)]
@@ -26,13 +50,8 @@ impl<'a> Cursor<'a> {
     fn take_byte(&mut self) -> Result<u8, Flaw>
         ensures { Reads byte self.old result self.new }
     {
-        if self.at >= self.job.len() {
-            return Err(Flaw {
-                cause: Cause::EndsEarly,
-                place: self.job.len(),
-            });
-        }
-        let byte = self.job[self.at];
+        let end = Cause::EndsEarly.at(self.job.len());
+        let byte = self.job.get(self.at).copied().ok_or(end)?;
         self.at += 1;
         Ok(byte)
     }
@@ -43,6 +62,6 @@ impl<'a> Cursor<'a> {
     {
         let low = self.take_byte()?;
         let high = self.take_byte()?;
-        Ok(u32::from(u16::from_le_bytes([low, high])))
+        Ok(u16::from_le_bytes([low, high]).into())
     }
 }

@@ -4,7 +4,8 @@ ghost use Rattle.job.specs.Opening.{opening, open_answer, opened, as_opened};
 ghost use Rattle.job.specs.Reading.{standing, at_start};
 
 use crate::reader::Reader;
-use crate::record::{Cause, Fault, MeasureName};
+use crate::record::{Cause, Fault};
+use measure::MeasureName;
 
 // A job that is open: its bytes, and the measure that the first of them names.
 #[derive(Clone, Copy)]
@@ -20,14 +21,8 @@ fn check(bytes: &[u8]) -> Result<MeasureName, Cause>
     if bytes.len() > 65_535 {
         return Err(Cause::TooLong);
     }
-    if bytes.len() == 0 {
-        return Err(Cause::EndsEarly);
-    }
-    match bytes[0] {
-        0 => Ok(MeasureName::Squared),
-        1 => Ok(MeasureName::Plain),
-        _ => Err(Cause::UnknownMeasure),
-    }
+    let first = bytes.first().ok_or(Cause::EndsEarly)?;
+    Ok(MeasureName::try_from(*first)?)
 }
 
 impl<'a> Job<'a> {
@@ -35,14 +30,13 @@ impl<'a> Job<'a> {
     pub fn open(bytes: &'a [u8]) -> Result<Job<'a>, Fault>
         ensures { opened result ≡ open_answer bytes.now }
     {
-        match check(bytes) {
-            Ok(measure) => Ok(Job { bytes, measure }),
-            Err(cause) => Err(Fault {
+        check(bytes)
+            .map(|measure| Job { bytes, measure })
+            .map_err(|cause| Fault {
                 cause,
                 index: 0,
                 place: 0,
-            }),
-        }
+            })
     }
 
     // The measure that the job names.

@@ -1,8 +1,8 @@
 // The reader of a job's records, one after another.
 ghost use Rattle.std.specs.Prelude.{◌≡◌};
-ghost use Rattle.job.specs.Reading.{Advances, standing, at_start, fault_at, answered, next_answer, next_standing};
+ghost use Rattle.job.specs.Reading.{Advances, standing, at_start, answered, next_answer, next_standing};
 
-use crate::cursor::{Cursor, Flaw};
+use crate::cursor::Cursor;
 use crate::mark::Mark;
 use crate::record::{Fault, Record};
 
@@ -31,39 +31,25 @@ impl<'a> Reader<'a> {
         self.mark.index
     }
 
-    // A flaw of the next record, as a fault.
-    fn fault(&self, flaw: Flaw) -> Fault
-        ensures { result ≡ fault_at (standing self.now).index flaw }
-    {
-        Fault {
-            cause: flaw.cause,
-            index: self.mark.index,
-            place: flaw.place,
-        }
-    }
-
     // The next record, or none where the job has ended; where a record is refused, the reader stays.
     pub fn next_record(&mut self) -> Result<Option<Record<'a>>, Fault>
         ensures answer { answered result ≡ next_answer (standing self.old) }
         ensures after { standing self.new ≡ next_standing (standing self.old) }
         ensures advances { Advances (standing self.old) (answered result) (standing self.new) }
     {
-        if self.mark.place >= self.job.len() {
+        let Mark { place, index } = self.mark;
+        if place >= self.job.len() {
             return Ok(None);
         }
         let mut cursor = Cursor {
             job: self.job,
-            at: self.mark.place,
+            at: place,
         };
-        match cursor.take_record() {
-            Ok(record) => {
-                self.mark = Mark {
-                    place: cursor.at,
-                    index: self.mark.index + 1,
-                };
-                Ok(Some(record))
-            }
-            Err(flaw) => Err(self.fault(flaw)),
-        }
+        let record = cursor.take_record().map_err(|flaw| flaw.of_record(index))?;
+        self.mark = Mark {
+            place: cursor.at,
+            index: index + 1,
+        };
+        Ok(Some(record))
     }
 }

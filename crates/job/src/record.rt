@@ -1,15 +1,11 @@
 // What a job holds, and what the reader refuses.
-ghost use Rattle.std.specs.Prelude.{◌≡◌};
-ghost use Rattle.job.specs.Causes.{number_of};
+ghost use Rattle.std.specs.Prelude.{◌≡◌, Some};
+ghost use Rattle.job.specs.Causes.{number_of, reason, fault_text};
+ghost use Rattle.job.specs.declared.record.Cause.TheVariants.{UnknownMeasure};
 
+use measure::UnknownMeasure;
 use row::{Cell, Row};
-
-// The measure that a job's first byte names.
-#[derive(Clone, Copy, PartialEq, Eq, Debug)]
-pub enum MeasureName {
-    Squared,
-    Plain,
-}
+use std::fmt;
 
 // A name: the part of the job that holds it, and that part's place.
 #[derive(Clone, Copy)]
@@ -27,15 +23,15 @@ pub enum Record<'a> {
     Try(Cell, Option<Name<'a>>),
 }
 
-// Why a job or a record of it is not read.
+// Why a job or a record of it is not read, with the number of the refusal.
 #[derive(Clone, Copy, PartialEq, Eq, Debug)]
 pub enum Cause {
-    TooLong,
-    EndsEarly,
-    UnknownKind,
-    WrongMap,
-    BadName,
-    UnknownMeasure,
+    TooLong = 12,
+    EndsEarly = 15,
+    UnknownKind = 16,
+    WrongMap = 17,
+    BadName = 18,
+    UnknownMeasure = 19,
 }
 
 impl Cause {
@@ -43,14 +39,31 @@ impl Cause {
     pub fn number(self) -> u32
         ensures { result ≡ number_of self }
     {
-        match self {
-            Cause::TooLong => 12,
-            Cause::EndsEarly => 15,
-            Cause::UnknownKind => 16,
-            Cause::WrongMap => 17,
-            Cause::BadName => 18,
-            Cause::UnknownMeasure => 19,
-        }
+        self as u32
+    }
+}
+
+impl From<UnknownMeasure> for Cause {
+    ghost from_gives = { λ _ cause. cause ≡ UnknownMeasure };
+
+    fn from(_unknown: UnknownMeasure) -> Cause {
+        Cause::UnknownMeasure
+    }
+}
+
+// Why a job or a record is refused, in words.
+impl fmt::Display for Cause {
+    ghost output = { λ cause. Some (reason cause) };
+
+    fn fmt<W: fmt::Write>(&self, f: &mut fmt::Formatter<W>) -> fmt::Result {
+        f.write_str(match self {
+            Cause::TooLong => "the job is longer than 65535 bytes",
+            Cause::EndsEarly => "the job ends too early",
+            Cause::UnknownKind => "the kind is unknown",
+            Cause::WrongMap => "the bit map lacks a required bit or has one that its kind lacks",
+            Cause::BadName => "a name of length 0 or with a byte outside 21 to 7E",
+            Cause::UnknownMeasure => "the first byte names no measure",
+        })
     }
 }
 
@@ -60,4 +73,19 @@ pub struct Fault {
     pub cause: Cause,
     pub index: usize,
     pub place: usize,
+}
+
+// The record's index, the byte's place, and the refusal with its number.
+impl fmt::Display for Fault {
+    ghost output = { λ fault. Some (fault_text fault) };
+
+    fn fmt<W: fmt::Write>(&self, f: &mut fmt::Formatter<W>) -> fmt::Result {
+        let Fault {
+            cause,
+            index,
+            place,
+        } = *self;
+        let number = cause.number();
+        write!(f, "{index} bad byte {place}: refusal {number}, {cause}")
+    }
 }

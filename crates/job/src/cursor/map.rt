@@ -1,10 +1,33 @@
 // The bit map of a record, and the numbers whose bits stand in it.
-ghost use Rattle.std.specs.Prelude.{◌≡◌, ◌<◌};
+ghost use Rattle.std.specs.Prelude.{◌≡◌};
 ghost use Rattle.job.specs.Format.{stands, allows, map_byte, field};
-ghost use Rattle.job.specs.Reads.{Reads};
+ghost use Rattle.job.specs.Reads.{Reads, viewed, bits};
 
 use crate::cursor::{Cursor, Flaw};
 use crate::record::Cause;
+
+// The bits of a row's map.
+pub(crate) const ROW_LINE: u32 = 0;
+
+pub(crate) const ROW_LEFT: u32 = 1;
+
+pub(crate) const ROW_RIGHT: u32 = 2;
+
+// The bits of a cell's map.
+pub(crate) const CELL_NUMBER: u32 = 0;
+
+pub(crate) const CELL_SITE: u32 = 1;
+
+pub(crate) const CELL_LINE: u32 = 2;
+
+pub(crate) const CELL_WIDTH: u32 = 3;
+
+pub(crate) const CELL_WEIGHT: u32 = 4;
+
+pub(crate) const CELL_NAME: u32 = 5;
+
+// The only bit of a withdrawal's map.
+pub(crate) const WITHDRAWAL_NUMBER: u32 = 0;
 
 // What a record holds after its kind.
 #[derive(Clone, Copy)]
@@ -14,51 +37,57 @@ pub(crate) enum Form {
     Withdrawal,
 }
 
-// Whether a bit stands in a map.
-pub(crate) fn stands_in(map: u8, bit: u8) -> bool
-    requires { bit < 8 }
-    ensures { result ≡ stands map bit }
-{
-    map >> bit & 1 == 1
+// The bits that say which fields a record has.
+#[derive(Clone, Copy)]
+pub(crate) struct Map {
+    bits: u8,
+}
+
+impl Map {
+    // Whether a bit stands in the map.
+    pub(crate) fn has(self, bit: u32) -> bool
+        ensures { result ≡ stands self.bits bit }
+    {
+        u32::from(self.bits).unbounded_shr(bit) & 1 == 1
+    }
 }
 
 impl Form {
     // Whether a map has each bit that this form requires, and none that it lacks.
-    fn admits(self, map: u8) -> bool
-        ensures { result ≡ allows self map }
+    fn admits(self, map: Map) -> bool
+        ensures { result ≡ allows self map.bits }
     {
         match self {
-            Form::Row => map < 0b1000 && stands_in(map, 2),
-            Form::Cell => map < 0b100_0000 && stands_in(map, 0) && stands_in(map, 3),
-            Form::Withdrawal => map < 0b10 && stands_in(map, 0),
+            Form::Row => map.bits < 0b1000 && map.has(ROW_RIGHT),
+            Form::Cell => map.bits < 0b100_0000 && map.has(CELL_NUMBER) && map.has(CELL_WIDTH),
+            Form::Withdrawal => map.bits < 0b10 && map.has(WITHDRAWAL_NUMBER),
         }
     }
 }
 
 impl<'a> Cursor<'a> {
     // The bit map at this place.
-    pub(crate) fn take_map(&mut self, form: Form) -> Result<u8, Flaw>
-        ensures { Reads (map_byte form) self.old result self.new }
+    pub(crate) fn take_map(&mut self, form: Form) -> Result<Map, Flaw>
+        ensures { Reads (map_byte form) self.old (viewed bits result) self.new }
     {
         let place = self.at;
-        let map = self.take_byte()?;
-        if !form.admits(map) {
-            return Err(Flaw {
-                cause: Cause::WrongMap,
-                place,
-            });
+        let bits = self.take_byte()?;
+        let map = Map { bits };
+        if form.admits(map) {
+            Ok(map)
+        } else {
+            Err(Cause::WrongMap.at(place))
         }
-        Ok(map)
     }
 
     // The number whose bit stands in the map, or what counts where it does not.
-    pub(crate) fn take_field(&mut self, map: u8, bit: u8, absent: u32) -> Result<u32, Flaw>
-        requires { bit < 8 }
-        ensures { Reads (field map bit absent) self.old result self.new }
+    pub(crate) fn take_field(&mut self, map: Map, bit: u32, absent: u32) -> Result<u32, Flaw>
+        ensures { Reads (field map.bits bit absent) self.old result self.new }
     {
-        if !stands_in(map, bit) {
-            return Ok(absent);
+        if map.has(bit) {
+            self.take_number()
+        } else {
+            Ok(absent)
         }
-        self.take_number()
     }
 }

@@ -1,19 +1,11 @@
 // The name of a cell.
-ghost use Rattle.std.specs.Prelude.{◌≡◌, ◌<◌};
 ghost use Rattle.std.specs.Option.{option_map};
-ghost use Rattle.job.specs.Format.{printable, good_bytes, name, name_field};
+ghost use Rattle.job.specs.Format.{good_bytes, name, name_field};
 ghost use Rattle.job.specs.Reads.{Reads, viewed, named};
 
-use crate::cursor::map::stands_in;
+use crate::cursor::map::{CELL_NAME, Map};
 use crate::cursor::{Cursor, Flaw};
 use crate::record::{Cause, Name};
-
-// Whether a name may have a byte.
-fn is_printable(byte: u8) -> bool
-    ensures { result ≡ printable byte }
-{
-    0x21 <= byte && byte <= 0x7E
-}
 
 impl<'a> Cursor<'a> {
     // Moves over so many bytes of a name, each of which has to be one that a name may have.
@@ -22,12 +14,8 @@ impl<'a> Cursor<'a> {
     {
         for _ in 0..size {
             let place = self.at;
-            let byte = self.take_byte()?;
-            if !is_printable(byte) {
-                return Err(Flaw {
-                    cause: Cause::BadName,
-                    place,
-                });
+            if !self.take_byte()?.is_ascii_graphic() {
+                return Err(Cause::BadName.at(place));
             }
         }
         Ok(())
@@ -40,10 +28,7 @@ impl<'a> Cursor<'a> {
         let place = self.at;
         let size = self.take_byte()?;
         if size == 0 {
-            return Err(Flaw {
-                cause: Cause::BadName,
-                place,
-            });
+            return Err(Cause::BadName.at(place));
         }
         let at = self.at;
         self.pass_name(size)?;
@@ -54,14 +39,13 @@ impl<'a> Cursor<'a> {
     }
 
     // The name, where its bit stands in the map.
-    pub(crate) fn take_name_field(&mut self, map: u8, bit: u8) -> Result<Option<Name<'a>>, Flaw>
-        requires { bit < 8 }
-        ensures { Reads (name_field map bit) self.old (viewed (option_map named) result) self.new }
+    pub(crate) fn take_name_field(&mut self, map: Map) -> Result<Option<Name<'a>>, Flaw>
+        ensures { Reads (name_field map.bits 5) self.old (viewed (option_map named) result) self.new }
     {
-        if !stands_in(map, bit) {
-            return Ok(None);
+        if map.has(CELL_NAME) {
+            Ok(Some(self.take_name()?))
+        } else {
+            Ok(None)
         }
-        let name = self.take_name()?;
-        Ok(Some(name))
     }
 }

@@ -1,10 +1,14 @@
 // The records: a kind, a map, and the fields whose bits stand in it.
-ghost use Rattle.job.specs.Format.{row_part, cell_part, withdrawal_part, read_record};
+ghost use Rattle.job.specs.Format.{kind_at, row_part, cell_part, withdrawal_part, read_record};
 ghost use Rattle.job.specs.Reads.{Reads, viewed, cell_named, content};
 
-use crate::cursor::map::Form;
+use crate::cursor::map::{
+    CELL_LINE, CELL_NUMBER, CELL_SITE, CELL_WEIGHT, CELL_WIDTH, Form, ROW_LEFT, ROW_LINE,
+    ROW_RIGHT, WITHDRAWAL_NUMBER,
+};
 use crate::cursor::{Cursor, Flaw};
-use crate::record::{Cause, Name, Record};
+use crate::kind::Kind;
+use crate::record::{Name, Record};
 use row::{Cell, Row, Spot};
 
 impl<'a> Cursor<'a> {
@@ -13,9 +17,9 @@ impl<'a> Cursor<'a> {
         ensures { Reads row_part self.old result self.new }
     {
         let map = self.take_map(Form::Row)?;
-        let line = self.take_field(map, 0, 0)?;
-        let left = self.take_field(map, 1, 0)?;
-        let right = self.take_field(map, 2, 0)?;
+        let line = self.take_field(map, ROW_LINE, 0)?;
+        let left = self.take_field(map, ROW_LEFT, 0)?;
+        let right = self.take_field(map, ROW_RIGHT, 0)?;
         Ok(Row { line, left, right })
     }
 
@@ -24,21 +28,19 @@ impl<'a> Cursor<'a> {
         ensures { Reads cell_part self.old (viewed cell_named result) self.new }
     {
         let map = self.take_map(Form::Cell)?;
-        let number = self.take_field(map, 0, 0)?;
-        let site = self.take_field(map, 1, 0)?;
-        let line = self.take_field(map, 2, 0)?;
-        let width = self.take_field(map, 3, 0)?;
-        let weight = self.take_field(map, 4, 1)?;
-        let name = self.take_name_field(map, 5)?;
-        Ok((
-            Cell {
-                number,
-                wanted: Spot { line, site },
-                width,
-                weight,
-            },
-            name,
-        ))
+        let number = self.take_field(map, CELL_NUMBER, 0)?;
+        let site = self.take_field(map, CELL_SITE, 0)?;
+        let line = self.take_field(map, CELL_LINE, 0)?;
+        let width = self.take_field(map, CELL_WIDTH, 0)?;
+        let weight = self.take_field(map, CELL_WEIGHT, 1)?;
+        let name = self.take_name_field(map)?;
+        let cell = Cell {
+            number,
+            wanted: Spot { line, site },
+            width,
+            weight,
+        };
+        Ok((cell, name))
     }
 
     // What a withdrawal holds after its kind.
@@ -46,29 +48,33 @@ impl<'a> Cursor<'a> {
         ensures { Reads withdrawal_part self.old result self.new }
     {
         let map = self.take_map(Form::Withdrawal)?;
-        self.take_field(map, 0, 0)
+        self.take_field(map, WITHDRAWAL_NUMBER, 0)
+    }
+
+    // The kind at this place.
+    fn take_kind(&mut self) -> Result<Kind, Flaw>
+        ensures { Reads kind_at self.old result self.new }
+    {
+        let place = self.at;
+        let number = self.take_byte()?;
+        Kind::try_from(number).map_err(|cause| cause.at(place))
     }
 
     // The record at this place.
     pub(crate) fn take_record(&mut self) -> Result<Record<'a>, Flaw>
         ensures { Reads read_record self.old (viewed content result) self.new }
     {
-        let place = self.at;
-        match self.take_byte()? {
-            1 => Ok(Record::Row(self.take_row()?)),
-            2 => {
+        match self.take_kind()? {
+            Kind::Row => Ok(Record::Row(self.take_row()?)),
+            Kind::Place => {
                 let (cell, name) = self.take_cell()?;
                 Ok(Record::Place(cell, name))
             }
-            3 => Ok(Record::Withdraw(self.take_withdrawal()?)),
-            4 => {
+            Kind::Withdraw => Ok(Record::Withdraw(self.take_withdrawal()?)),
+            Kind::Try => {
                 let (cell, name) = self.take_cell()?;
                 Ok(Record::Try(cell, name))
             }
-            _ => Err(Flaw {
-                cause: Cause::UnknownKind,
-                place,
-            }),
         }
     }
 }

@@ -4,30 +4,30 @@ use Rattle.job.proofs.Moves.{moved_on}
 use Rattle.job.proofs.Names.{good_next, good_not, good_end}
 use Rattle.job.proofs.cursor.Cursor.pass_name.Goals as goal
 
-pub returns-in_err-byte : goal.returns-in_err-byte
-returns-in_err-byte c =
+pub returns-in_err-take_byte : goal.returns-in_err-take_byte
+returns-in_err-take_byte c =
     let p = err_from_is_err_and c.from_residual.result c.from_residual.ensures.1 in
-    let told = c.in_err-byte.ensures in
+    let told = c.in_err-take_byte.ensures in
     let more : c.loop.counter < c.args.size = omega arith in
     rw (p.1, p.2)
     (record {
-      reads = sym (good_end c.args.size c.loop.counter _ _ more c.in_err-byte.field-0.0 (sym told.reads)) ∙ c.loop.invariant.0;
+      reads = sym (good_end c.args.size c.loop.counter _ _ more c.in_err-take_byte.field-0.0 (sym told.reads)) ∙ c.loop.invariant.0;
       moved = moved_on c.loop.invariant.1 told.moved;
     })
 
-pub returns-then-not-is_printable : goal.returns-then-not-is_printable
-returns-then-not-is_printable c =
-    let told = c.in_ok-byte.ensures in
+pub returns-then-not-is_ascii_graphic : goal.returns-then-not-is_ascii_graphic
+returns-then-not-is_ascii_graphic c =
+    let told = c.in_ok-take_byte.ensures in
     let more : c.loop.counter < c.args.size = omega arith in
-    record {
-      reads = sym (good_not c.args.size c.loop.counter _ _ more _ _ (sym told.reads) (sym c.if-not-is_printable.ensures)) ∙ c.loop.invariant.0;
+    rw c.at.ensures (record {
+      reads = sym (good_not c.args.size c.loop.counter _ _ more _ _ (sym told.reads) (sym c.if-not-is_ascii_graphic.ensures.value)) ∙ c.loop.invariant.0;
       moved = moved_on c.loop.invariant.1 told.moved;
-    }
+    })
 
 pub loop-preserved : goal.loop-preserved
 loop-preserved c =
-    let told = c.in_ok-byte.ensures in
+    let told = c.in_ok-take_byte.ensures in
     let more : c.loop.counter < c.args.size = omega arith in (
-      rw told.moved.same (sym (good_next c.args.size c.loop.counter _ _ more _ _ (sym told.reads) (sym c.if-not-is_printable.ensures)) ∙ c.loop.invariant.0),
+      rw told.moved.same (sym (good_next c.args.size c.loop.counter _ _ more _ _ (sym told.reads) (sym c.if-not-is_ascii_graphic.ensures.value)) ∙ c.loop.invariant.0),
       moved_on c.loop.invariant.1 told.moved,
     )

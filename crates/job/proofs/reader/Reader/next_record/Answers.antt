@@ -1,19 +1,23 @@
-use Rattle.std.proofs.Common.{◌+◌, ◌≤◌, refl, arith, rules}
+use Rattle.std.proofs.Common.{◌≡◌, ◌+◌, ◌≤◌, Ok, Err, Result, refl, arith}
+use Rattle.std.specs.Result.{MatchResult, IsErrAnd}
 use Rattle.job.proofs.Advance.{passes}
 use Rattle.job.proofs.reader.Reader.next_record.Goals as goal
+
+-- a result whose error was mapped, and which is a value, was that value before
+before_map : {X E D : Type 0} (r : Result X E) (s : Result X D) (F : E → D → Type 0) (x : X) → MatchResult r (λ y. s ≡ Ok y) (λ e. IsErrAnd s (F e)) → s ≡ Ok x → r ≡ Ok x
+before_map (Ok y) s F x is e = cc
+before_map (Err d) s F x is e = absurd (rw e at is)
 
 -- the index stays no more than the place: the record that was read takes bytes
 pub invariant_of-self : goal.invariant_of-self
 invariant_of-self c =
     let before = c.args.self.now in
-    let reach : before.mark.place + 2 ≤ c.take_record.new.self.at = (passes before.job.now _ _ _ c.in-Ok.ensures.reads).0.forth in
+    let was : c.take_record.result ≡ Ok c.in_ok-record.record = before_map _ _ _ _ c.map_err.ensures.cases c.in_ok-record.was in
+    let reach : before.mark.place + 2 ≤ c.take_record.new.self.at = (passes before.job.now _ _ _ (rw was at c.take_record.ensures.reads)).0.forth in
     record { counted = omega (arith, before.mark.counted) }
 
-pub returns-in-Ok : goal.returns-in-Ok
-returns-in-Ok c =
-    let passed = passes _ _ _ _ c.in-Ok.ensures.reads in
-    record {
-      answer = search rules;
-      after = search rules;
-      advances = record { same = refl; forward = passed.0.forth; within = passed.0.within; counted = refl; names = passed.1 };
-    }
+pub returns-clause-advances : goal.returns-clause-advances
+returns-clause-advances c =
+    let was : c.take_record.result ≡ Ok c.in_ok-record.record = before_map _ _ _ _ c.map_err.ensures.cases c.in_ok-record.was in
+    let passed = passes _ _ _ _ (rw was at c.take_record.ensures.reads) in
+    record { same = refl; forward = passed.0.forth; within = passed.0.within; counted = refl; names = passed.1 }

@@ -1,6 +1,0 @@
-use Rattle.std.proofs.Common.{◌/◌, ◌^◌, eqb, ap}
-use Rattle.std.proofs.lemmas.Nat.{and_mask}
-use Rattle.job.proofs.cursor.map.stands_in.Goals as goal
-
-pub returns : goal.returns
-returns c = ap (λ low. eqb low 1) (and_mask (c.args.map / 2 ^ c.args.bit) 1)
