@@ -10,7 +10,7 @@ pub use floor::Floor;
 use row::{Cell, Fault, Row, Spot};
 
 // The floor's record of one standing cell: the cell, the row that it stands on, and its site.
-#[derive(Clone, Copy)]
+#[derive(Clone, Copy, PartialEq, Eq, Debug)]
 pub struct Seat {
     pub cell: Cell,
     pub row: Row,
@@ -18,14 +18,14 @@ pub struct Seat {
 }
 
 // What a granted placing answers: where the cell stands, and what the floor costs more.
-#[derive(Clone, Copy)]
+#[derive(Clone, Copy, PartialEq, Eq, Debug)]
 pub struct Placing {
     pub spot: Spot,
     pub rise: u64,
 }
 
 // Why a call of the floor is refused.
-#[derive(Clone, Copy)]
+#[derive(Clone, Copy, PartialEq, Eq, Debug)]
 pub enum Refusal {
     OutOfRange(Fault),
     NumberStands,

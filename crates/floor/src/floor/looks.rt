@@ -24,13 +24,6 @@ impl<M: Measure> Floor<M> {
         }
     }
 
-    // The seat at a place in the order of the seats: by row order, then by wanted order.
-    pub fn seat(&self, k: usize) -> Option<Seat>
-        ensures { result ≡ slice_get (seats_of self.now) k }
-    {
-        self.seats.items.as_slice().get(k).copied()
-    }
-
     // What the floor costs: for each standing cell, the cost of its site and of its line.
     pub fn cost(&self) -> u64
         ensures value { result ≡ floor_cost (M.price self.now.measure) (seats_of self.now) }
@@ -48,5 +41,12 @@ impl<M: Measure> Floor<M> {
             sum += across + up;
         }
         sum
+    }
+
+    // The seat at a place in the order of the seats: by row order, then by wanted order.
+    pub fn seat(&self, k: usize) -> Option<Seat>
+        ensures { result ≡ slice_get (seats_of self.now) k }
+    {
+        self.seats.items.as_slice().get(k).copied()
     }
 }
