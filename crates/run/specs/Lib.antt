@@ -1,0 +1,5 @@
+pub mod Faults
+pub mod Parts
+pub mod State
+pub mod Steps
+pub mod Turns
