@@ -1,12 +1,12 @@
 -- How far a record's parts reach: forward, and not past the job's end; a flaw does not stand past it either.
-use Rattle.std.proofs.Common.{◌≡◌, ℕ, zero, suc, ◌+◌, ◌-◌, ◌≤◌, Bool, true, false, cond, eqb, ltb, List, length, IfSome, Ok, Err, Option, Result, sym, ap, subst, refl, arith}
+use Rattle.std.proofs.Common.{◌≡◌, ℕ, zero, suc, ◌+◌, ◌-◌, ◌≤◌, Bool, true, false, cond, eqb, ltb, List, length, IfSome, Some, None, Ok, Err, Option, Result, sym, ap, subst, refl, arith}
 use Rattle.std.proofs.lemmas.List.Edits.{length-between}
 use Rattle.std.proofs.lemmas.Bool.{cond_both, ltb-true}
 use Rattle.std.specs.List.{between}
 use Rattle.job.specs.Format.{Named, CellNamed, Content, allows, map_byte, stands, field, printable, good_bytes, text, name, name_field, row_part, cell_part, withdrawal_part, kind_named, kind_part, kind_at, after_kind, read_record}
 use Rattle.job.specs.Format.Content.{row, place, withdraw, try}
 use Rattle.job.specs.Parts.{Part, taken, after, made, byte, number}
-use Rattle.job.specs.Reading.{Standing, Within, InJob, NameInJob, fault_at, part_answer, next_answer}
+use Rattle.job.specs.Reading.{Standing, Within, InJob, NameInJob, fault_at, part_answer, part_standing, next_answer, next_standing}
 use Rattle.job.specs.declared.cursor.Flaw.{Flaw}
 use Rattle.job.specs.declared.cursor.map.Form.{Form}
 use Rattle.job.specs.declared.cursor.map.Form.TheVariants as form
@@ -181,3 +181,20 @@ fault_within s fault counted small is =
     part_within : (part : Part Content) → ((flaw : Flaw) → Err flaw ≡ part → flaw.place ≤ length s.job) → Err fault ≡ part_answer s.index part → Within fault
     part_within (Ok t) flaws e = absurd (cc)
     part_within (Err flaw) flaws e = let there : flaw.place ≤ length s.job = flaws flaw refl in let is : fault ≡ fault_at s.index flaw = cc in rw is (omega arith, omega arith)
+
+-- a record moves the reader on in its job, and not past the job's end
+pub record Moves (from to : Standing) : Type 0 where
+  pub same : to.job ≡ from.job
+  pub forward : from.place + 2 ≤ to.place
+  pub within : to.place ≤ length from.job
+
+pub record_moves : (s : Standing) (c : Content) → Ok (Some c) ≡ next_answer s → Moves s (next_standing s)
+record_moves s c is = by_test (ltb s.place (length s.job)) is
+  where
+  by_part : (part : Part Content) → ((v : Content) (next : ℕ) → taken v next ≡ part → Reaches s.job (s.place + 2) next) → Ok (Some c) ≡ part_answer s.index part → Moves s (part_standing s part)
+  by_part (Ok t) reach e = let r = reach t.value t.next refl in record { same = refl; forward = r.forth; within = r.within }
+  by_part (Err flaw) reach e = absurd (cc)
+
+  by_test : (b : Bool) → Ok (Some c) ≡ cond b (part_answer s.index (read_record s.job s.place)) (Ok None) → Moves s (cond b (part_standing s (read_record s.job s.place)) s)
+  by_test true e = by_part (read_record s.job s.place) (λ v next e. (passes s.job s.place v next e).0) e
+  by_test false e = absurd (cc)
