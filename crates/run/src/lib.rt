@@ -3,6 +3,8 @@
 
 mod fault;
 mod run;
+mod whole;
 
 pub use fault::{Fault, Refused};
 pub use run::{NoLine, Run, Step};
+pub use whole::carry_out;
