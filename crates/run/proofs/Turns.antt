@@ -63,10 +63,10 @@ module _ (price : ℕ → ℕ → ℕ → ℕ) (s : State) where
   taken_by buffer step true (Some t) e answer = let is : step ≡ step_of t = cc in (t, refl, refl, rw is (take-append_seam _ _))
   taken_by buffer step false o e answer = absurd (cc)
 
-  pub step_taken : (buffer : List ℕ) (step : Step) → length buffer ≡ 320 → Ok (Some step) ≡ step_answer price s buffer → Taken step (step_state price s buffer) (step_buffer price s buffer)
-  step_taken buffer step size answer =
+  pub step_taken : (buffer wrote : List ℕ) (step : Step) (after : State) → length buffer ≡ 320 → Ok (Some step) ≡ step_answer price s buffer → after ≡ step_state price s buffer → wrote ≡ step_buffer price s buffer → Taken step after wrote
+  step_taken buffer wrote step after size answer goes writes =
       let by = taken_by buffer step (long buffer) (turn price s) (le-leb 320 (length buffer) (omega arith)) answer in
-      record { turn_is = by.0; is = by.1; state_is = by.2; line_is = by.3 }
+      record { turn_is = by.0; is = by.1; state_is = goes ∙ by.2; line_is = ap (take step.length) writes ∙ by.3 }
 
   none_by : (b : Bool) (o : Option (Said × State)) → b ≡ true → stepped None ≡ cond b (stepped (option_map step_of o)) (Err short_buffer) → (o ≡ None) × (cond b (state_left s o) s ≡ s)
   none_by true None e answer = (refl, refl)
@@ -74,8 +74,10 @@ module _ (price : ℕ → ℕ → ℕ → ℕ) (s : State) where
   none_by false o e answer = absurd (cc)
 
   -- no step: the job has ended, and the state stays
-  pub no_step : (buffer : List ℕ) → length buffer ≡ 320 → Ok None ≡ step_answer price s buffer → (turn price s ≡ None) × (step_state price s buffer ≡ s)
-  no_step buffer size answer = none_by (long buffer) (turn price s) (le-leb 320 (length buffer) (omega arith)) answer
+  pub no_step : (buffer : List ℕ) (after : State) → length buffer ≡ 320 → Ok None ≡ step_answer price s buffer → after ≡ step_state price s buffer → (turn price s ≡ None) × (after ≡ s)
+  no_step buffer after size answer goes =
+      let by = none_by (long buffer) (turn price s) (le-leb 320 (length buffer) (omega arith)) answer in
+      (by.0, goes ∙ by.1)
 
   -- a step's line, and then what is said after it
   pub next_turn : (most : ℕ) (t : Said × State) (before : List ℕ) → left s ≤ most → turn price s ≡ Some t → (fewer : ℕ) × (left t.1 ≤ fewer) × ((before ++ t.0.line) ++ run_text price fewer t.1 ≡ before ++ run_text price most s)

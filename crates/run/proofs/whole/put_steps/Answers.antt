@@ -2,6 +2,7 @@ use Rattle.std.proofs.Common.{◌≡◌, ℕ, ◌+◌, ◌-◌, ◌<◌, ◌≤�
 use Rattle.floor.specs.State.{measure_of}
 use Rattle.measure.specs.Names.{named_price}
 use Rattle.run.specs.State.{State, state}
+use Rattle.run.specs.Steps.{step_state, step_buffer}
 use Rattle.run.specs.Texts.{end_text, run_text}
 use Rattle.run.proofs.Turns.{left, turn_left, step_taken, no_step, next_turn, last_turn}
 use Rattle.run.proofs.whole.put_steps.Goals as goal
@@ -21,28 +22,26 @@ loop-next-smaller c =
     let inv = c.loop-next.invariant in
     let price = named_price (measure_of c.args.run.now.floor) in
     let s = state c.loop-next.run in
-    let answer = rw (c.in-Some.is, inv.3) at c.in-Ok.ensures.answer in
-    let taken = step_taken price s c.loop-next.buffer c.in-Some.step inv.4 answer in
-    let after : state c.step.new.self ≡ taken.turn_is.1 = (rw inv.3 at c.step.ensures.after) ∙ taken.state_is in
-    subst (λ (u : State). left u < left s) (sym after) (turn_left price s taken.turn_is taken.is)
+    let told = c.step.ensures in
+    let taken = step_taken price s c.loop-next.buffer c.step.new.buffer c.in-Some.step (state c.step.new.self) inv.4 (rw (c.in-Some.is, inv.3) at c.in-Ok.ensures.answer) (rw inv.3 at told.after) (rw inv.3 at told.line) in
+    subst (λ (u : State). left u < left s) (sym taken.state_is) (turn_left price s taken.turn_is taken.is)
 
 pub loop-next-preserved : goal.loop-next-preserved
 loop-next-preserved c =
     let inv = c.loop-next.invariant in
     let price = named_price (measure_of c.args.run.now.floor) in
     let s = state c.loop-next.run in
+    let after = state c.step.new.self in
     let before = vec_items c.loop-next.out in
-    let answer = rw (c.in-Some.is, inv.3) at c.in-Ok.ensures.answer in
-    let taken = step_taken price s c.loop-next.buffer c.in-Some.step inv.4 answer in
+    let told = c.step.ensures in
+    let taken = step_taken price s c.loop-next.buffer c.step.new.buffer c.in-Some.step after inv.4 (rw (c.in-Some.is, inv.3) at c.in-Ok.ensures.answer) (rw inv.3 at told.after) (rw inv.3 at told.line) in
     let t = taken.turn_is in
-    let after : state c.step.new.self ≡ t.1 = (rw inv.3 at c.step.ensures.after) ∙ taken.state_is in
-    let line : take c.in-Some.step.length c.step.new.buffer ≡ t.0.line = ap (take c.in-Some.step.length) (rw inv.3 at c.step.ensures.line) ∙ taken.line_is in
-    let items : vec_items c.extend_from_slice.new.self ≡ before ++ t.0.line = c.in_ok-extend_from_slice-in-Some.ensures.items ∙ ap (λ bytes. before ++ bytes) line in
+    let items : vec_items c.extend_from_slice.new.self ≡ before ++ t.0.line = c.in_ok-extend_from_slice-in-Some.ensures.items ∙ ap (λ bytes. before ++ bytes) taken.line_is in
     let next = next_turn price s inv.0 t before inv.1 taken.is in (
       next.0,
-      subst (λ (u : State). left u ≤ next.0) (sym after) next.1,
-      ap (λ bytes. bytes ++ run_text price next.0 (state c.step.new.self)) items
-          ∙ ap (λ u. (before ++ t.0.line) ++ run_text price next.0 u) after
+      subst (λ (u : State). left u ≤ next.0) (sym taken.state_is) next.1,
+      ap (λ bytes. bytes ++ run_text price next.0 after) items
+          ∙ ap (λ u. (before ++ t.0.line) ++ run_text price next.0 u) taken.state_is
           ∙ next.2
           ∙ inv.2,
       c.step.ensures.same ∙ inv.3,
@@ -54,6 +53,7 @@ returns-in-None-clause-lines c = λ _.
     let inv = c.loop-next.invariant in
     let price = named_price (measure_of c.args.run.now.floor) in
     let s = state c.loop-next.run in
-    let none = no_step price s c.loop-next.buffer inv.4 (rw (c.in-None.is, inv.3) at c.in-Ok.ensures.answer) in
-    let after : state c.step.new.self ≡ s = (rw inv.3 at c.step.ensures.after) ∙ none.1 in
-    subst (λ (u : State). vec_items c.loop-next.out ++ end_text price u ≡ vec_items c.args.out.now ++ run_text price (length c.args.run.now.reader.job.now + 1) (state c.args.run.now)) (sym after) (ap (λ text. vec_items c.loop-next.out ++ text) (sym (last_turn price s inv.0 none.0)) ∙ inv.2)
+    let after = state c.step.new.self in
+    let none = no_step price s c.loop-next.buffer after inv.4 (rw (c.in-None.is, inv.3) at c.in-Ok.ensures.answer) (rw inv.3 at c.step.ensures.after) in
+    let before = vec_items c.loop-next.out in
+    ap (λ u. before ++ end_text price u) none.1 ∙ ap (λ text. before ++ text) (sym (last_turn price s inv.0 none.0)) ∙ inv.2
