@@ -1,10 +1,13 @@
 pub mod Anys
+pub mod Best
 pub mod Chosen
 pub mod Costs
+pub mod Dearer
 pub mod Defaults
 pub mod Granted
 pub mod Joining
 pub mod Kept
+pub mod Keeping
 pub mod Known
 pub mod Leasts
 pub mod Listed
@@ -13,6 +16,7 @@ pub mod Orders
 pub mod Placed
 pub mod Ready
 pub mod Resited
+pub mod Risen
 pub mod Rising
 pub mod Rowed
 pub mod Settling

@@ -26,7 +26,7 @@ abbrev pub Standing : List Row → Row → Type 0
 Standing rows row = any (is_row row) rows ≡ true
 
 -- rows with the same fields are one row
-row_is : (a b : Row) → is_row a b ≡ true → b ≡ a
+pub row_is : (a b : Row) → is_row a b ≡ true → b ≡ a
 row_is a b e =
     let line = and_parts (eqb b.line a.line) (eqb b.left a.left && eqb b.right a.right) e in
     let sides = and_parts (eqb b.left a.left) (eqb b.right a.right) line.1 in

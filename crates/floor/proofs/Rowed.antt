@@ -20,7 +20,7 @@ use Rattle.floor.proofs.Orders.{row_chain, row_total}
 use Rattle.floor.proofs.Tests.{nothing_some, every_all, all_every, pairs_all, all_pairs, pairs_ordered, ordered_pairs, none_found, none_any, any_put}
 
 -- rows with one line and one left share a site
-shared_same : (a b : Row) → RangedRow a → RangedRow b → share a b ≡ false → same_row b a ≡ false
+pub shared_same : (a b : Row) → RangedRow a → RangedRow b → share a b ≡ false → same_row b a ≡ false
 shared_same a b ra rb apart = let x = ra.some in let y = rb.some in grind arith
 
 share_turn : (a b : Row) → share a b ≡ false → share b a ≡ false
@@ -33,10 +33,10 @@ module _ (rows : List Row) (row : Row) (none : add_refusal rows row ≡ None) wh
   passes_new : row_fault row ≡ None
   passes_new = unmapped OutOfRange (row_fault row) checks.0
 
-  ranged_new : RangedRow row
+  pub ranged_new : RangedRow row
   ranged_new = ranged_row row passes_new
 
-  apart_new : AllByRecursion (λ r. share row r ≡ false) rows
+  pub apart_new : AllByRecursion (λ r. share row r ≡ false) rows
   apart_new =
       let full = passed (ltb (length rows) 64) RowsFull (check (not (any (share row) rows)) RowShares None) checks.1 in
       none_any (share row) rows (passed (not (any (share row) rows)) RowShares None full.1).0

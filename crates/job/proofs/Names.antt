@@ -1,9 +1,21 @@
 -- The bytes of a name, one after another.
-use Rattle.std.proofs.Common.{◌≡◌, ℕ, suc, ◌+◌, ◌-◌, ◌<◌, true, false, cond, List, Err, refl, ◌∙◌, arith}
+use Rattle.std.proofs.Common.{◌≡◌, ℕ, suc, ◌+◌, ◌-◌, ◌<◌, true, false, cond, ltb, List, length, Ok, Err, ap, refl, ◌∙◌, arith}
+use Rattle.std.proofs.lemmas.Bool.{cond_both}
 use Rattle.job.specs.Format.{printable, good_bytes}
-use Rattle.job.specs.Parts.{taken, flawed, after, byte}
+use Rattle.job.specs.Parts.{Part, taken, flawed, after, byte}
 use Rattle.job.specs.declared.cursor.Flaw.{Flaw}
 use Rattle.job.specs.declared.record.Cause.TheVariants.{BadName}
+
+-- the place after a part, where there is one
+abbrev next_of : {X : Type 0} → Part X → ℕ
+next_of (Ok part) = part.next
+next_of (Err flaw) = 0
+
+-- a byte takes one place
+pub byte_ends : (job : List ℕ) (at b next : ℕ) → taken b next ≡ byte job at → next ≡ at + 1
+byte_ends job at b next is =
+    let P : Part ℕ → Type 0 = λ part. taken b next ≡ part → next ≡ at + 1 in
+    cond_both (ltb at (length job)) _ _ P (λ _ e. ap next_of e) (λ _ e. absurd (cc)) is
 
 module _ (size i : ℕ) (job : List ℕ) (at : ℕ) (more : i < size) where
   -- the bytes that are left after `i` of them: the first, and then the others

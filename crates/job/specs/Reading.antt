@@ -4,6 +4,7 @@
 --   at_start         at the first record of a job
 --   next_answer      what reading the next record answers: the record, none at the job's end, or the fault
 --   next_standing    where the reader stands after that: after a record, or else where it was
+--   Within           a fault whose index and place are at most 65,535
 --   InJob            a name is a part of the job, from its place on
 --   Advances         a record moves the reader by at least two places and not past the job's end; else the reader stays
 use Rattle.std.specs.Prelude.{◌≡◌, ℕ, ◌+◌, ◌≤◌, cond, List, length, IfSome, Some, None, Ok, Err, Option, Result, nat_lt}
@@ -54,6 +55,10 @@ part_standing s (Err flaw) = s
 
 abbrev pub next_standing : Standing → Standing
 next_standing s = cond (nat_lt s.place (length s.job)) (part_standing s (read_record s.job s.place)) s
+
+-- no index and no place is above a job's greatest length
+abbrev pub Within : Fault → Type 0
+Within fault = (fault.index ≤ 65535) × (fault.place ≤ 65535)
 
 -- a name's bytes are those of the job from its place on
 abbrev pub InJob : List ℕ → Named → Type 0

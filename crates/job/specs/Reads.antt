@@ -14,7 +14,7 @@ use Rattle.job.specs.Parts.{Part, taken}
 use Rattle.job.specs.declared.cursor.Cursor.{Cursor}
 use Rattle.job.specs.declared.cursor.Flaw.{Flaw}
 use Rattle.job.specs.declared.cursor.map.Map.{Map}
-use Rattle.job.specs.declared.record.Name.{Name}
+use Rattle.job.specs.declared.named.Name.{Name}
 use Rattle.job.specs.declared.record.Record.{Record}
 use Rattle.job.specs.declared.record.Record.TheVariants as variant
 

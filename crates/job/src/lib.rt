@@ -1,14 +1,17 @@
 // The reader of jobs: a job's bytes, record by record.
 #![tactic(auto)]
 
+mod check;
 mod cursor;
 mod kind;
 mod mark;
+mod named;
 mod opening;
 mod reader;
 mod record;
 
 pub use measure::MeasureName;
+pub use named::Name;
 pub use opening::Job;
 pub use reader::Reader;
-pub use record::{Cause, Fault, Name, Record};
+pub use record::{Cause, Fault, Record};

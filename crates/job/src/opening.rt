@@ -1,10 +1,9 @@
 // Opening a job: what its length and its first byte say.
-ghost use Rattle.std.specs.Prelude.{◌≡◌};
-ghost use Rattle.job.specs.Opening.{opening, open_answer, opened, as_opened};
-ghost use Rattle.job.specs.Reading.{standing, at_start};
+ghost use Rattle.std.specs.Prelude.{◌≤◌, length};
 
+use crate::check::check;
 use crate::reader::Reader;
-use crate::record::{Cause, Fault};
+use crate::record::Fault;
 use measure::MeasureName;
 
 // A job that is open: its bytes, and the measure that the first of them names.
@@ -12,31 +11,24 @@ use measure::MeasureName;
 pub struct Job<'a> {
     bytes: &'a [u8],
     measure: MeasureName,
-}
-
-// The measure that a job names, or why the job is refused.
-fn check(bytes: &[u8]) -> Result<MeasureName, Cause>
-    ensures { result ≡ opening bytes.now }
-{
-    if bytes.len() > 65_535 {
-        return Err(Cause::TooLong);
-    }
-    let first = bytes.first().ok_or(Cause::EndsEarly)?;
-    Ok(MeasureName::try_from(*first)?)
+    ghost small: { length bytes.now ≤ 65535 },
 }
 
 impl<'a> Job<'a> {
+    ghost use Rattle.std.specs.Prelude.{◌≡◌};
+    ghost use Rattle.job.specs.Opening.{open_answer, opened, as_opened};
+    ghost use Rattle.job.specs.Reading.{standing, at_start};
+
     // Opens a job, or says why it is refused.
     pub fn open(bytes: &'a [u8]) -> Result<Job<'a>, Fault>
         ensures { opened result ≡ open_answer bytes.now }
     {
-        check(bytes)
-            .map(|measure| Job { bytes, measure })
-            .map_err(|cause| Fault {
-                cause,
-                index: 0,
-                place: 0,
-            })
+        let measure = check(bytes).map_err(|cause| Fault {
+            cause,
+            index: 0,
+            place: 0,
+        })?;
+        Ok(Job { bytes, measure })
     }
 
     // The measure that the job names.

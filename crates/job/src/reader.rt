@@ -1,6 +1,5 @@
 // The reader of a job's records, one after another.
-ghost use Rattle.std.specs.Prelude.{◌≡◌};
-ghost use Rattle.job.specs.Reading.{Advances, standing, at_start, answered, next_answer, next_standing};
+ghost use Rattle.std.specs.Prelude.{◌≤◌, length};
 
 use crate::cursor::Cursor;
 use crate::mark::Mark;
@@ -11,11 +10,17 @@ use crate::record::{Fault, Record};
 pub struct Reader<'a> {
     job: &'a [u8],
     mark: Mark,
+    ghost small: { length job.now ≤ 65535 },
+    ghost within: { mark.place ≤ 65535 },
 }
 
 impl<'a> Reader<'a> {
+    ghost use Rattle.std.specs.Prelude.{◌≡◌, IfErr};
+    ghost use Rattle.job.specs.Reading.{Advances, Within, standing, at_start, answered, next_answer, next_standing};
+
     // The reader of a job's records, at the first of them.
     pub(crate) fn at_start(job: &'a [u8]) -> Reader<'a>
+        requires { length job.now ≤ 65535 }
         ensures { standing result ≡ at_start job.now }
     {
         Reader {
@@ -26,9 +31,18 @@ impl<'a> Reader<'a> {
 
     // The index of the next record.
     pub fn index(&self) -> usize
-        ensures { result ≡ (standing self.now).index }
+        ensures value { result ≡ (standing self.now).index }
+        ensures small { result ≤ 65535 }
     {
         self.mark.index
+    }
+
+    // The place of the next record: of its first byte, or of the job's end.
+    pub fn place(&self) -> usize
+        ensures value { result ≡ (standing self.now).place }
+        ensures small { result ≤ 65535 }
+    {
+        self.mark.place
     }
 
     // The next record, or none where the job has ended; where a record is refused, the reader stays.
@@ -36,6 +50,7 @@ impl<'a> Reader<'a> {
         ensures answer { answered result ≡ next_answer (standing self.old) }
         ensures after { standing self.new ≡ next_standing (standing self.old) }
         ensures advances { Advances (standing self.old) (answered result) (standing self.new) }
+        ensures small { IfErr result Within }
     {
         let Mark { place, index } = self.mark;
         if place >= self.job.len() {

@@ -3,16 +3,10 @@ ghost use Rattle.std.specs.Prelude.{◌≡◌, Some};
 ghost use Rattle.job.specs.Causes.{number_of, reason, fault_text};
 ghost use Rattle.job.specs.declared.record.Cause.TheVariants.{UnknownMeasure};
 
+use crate::named::Name;
 use measure::UnknownMeasure;
 use row::{Cell, Row};
 use std::fmt;
-
-// A name: the part of the job that holds it, and that part's place.
-#[derive(Clone, Copy)]
-pub struct Name<'a> {
-    pub text: &'a [u8],
-    pub at: usize,
-}
 
 // One record of a job.
 #[derive(Clone, Copy)]

@@ -1,5 +1,6 @@
 pub mod Accepted
 pub mod Defaults
+pub mod Fewer
 pub mod Finished
 pub mod Instance
 pub mod Laying

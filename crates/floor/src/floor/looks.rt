@@ -1,11 +1,11 @@
 // The calls that only look: where a cell stands, and what the floor costs.
-ghost use Rattle.std.specs.Prelude.{◌≡◌, ◌^◌, ◌≤◌};
+ghost use Rattle.std.specs.Prelude.{◌≡◌, ◌^◌, ◌≤◌, slice_get};
 ghost use Rattle.floor.specs.Calls.{where_answer};
 ghost use Rattle.floor.specs.Seats.{floor_cost};
 ghost use Rattle.floor.specs.State.{seats_of};
 
-use crate::Refusal;
 use crate::floor::Floor;
+use crate::{Refusal, Seat};
 use measure::Measure;
 use row::Spot;
 
@@ -41,5 +41,12 @@ impl<M: Measure> Floor<M> {
             sum += across + up;
         }
         sum
+    }
+
+    // The seat at a place in the order of the seats: by row order, then by wanted order.
+    pub fn seat(&self, k: usize) -> Option<Seat>
+        ensures { result ≡ slice_get (seats_of self.now) k }
+    {
+        self.seats.as_slice().get(k).copied()
     }
 }

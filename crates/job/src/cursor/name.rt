@@ -1,12 +1,13 @@
 // The name of a cell.
-ghost use Rattle.std.specs.Prelude.{◌≡◌};
+ghost use Rattle.std.specs.Prelude.{◌≡◌, ◌+◌, IfOk};
 ghost use Rattle.std.specs.Option.{option_map};
 ghost use Rattle.job.specs.Format.{printable, good_bytes, name, name_field};
 ghost use Rattle.job.specs.Reads.{Reads, viewed, named};
 
 use crate::cursor::map::{CELL_NAME, Map};
 use crate::cursor::{Cursor, Flaw};
-use crate::record::{Cause, Name};
+use crate::named::Name;
+use crate::record::Cause;
 
 // Whether a name may have a byte.
 fn is_printable(byte: u8) -> bool
@@ -18,7 +19,8 @@ fn is_printable(byte: u8) -> bool
 impl<'a> Cursor<'a> {
     // Moves over so many bytes of a name, each of which has to be one that a name may have.
     fn pass_name(&mut self, size: u8) -> Result<(), Flaw>
-        ensures { Reads (good_bytes size) self.old result self.new }
+        ensures reads { Reads (good_bytes size) self.old result self.new }
+        ensures ends { IfOk result (λ _. self.new.at ≡ self.old.at + size) }
     {
         for _ in 0..size {
             let place = self.at;

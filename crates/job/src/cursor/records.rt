@@ -8,7 +8,8 @@ use crate::cursor::map::{
 };
 use crate::cursor::{Cursor, Flaw};
 use crate::kind::Kind;
-use crate::record::{Name, Record};
+use crate::named::Name;
+use crate::record::Record;
 use row::{Cell, Row, Spot};
 
 impl<'a> Cursor<'a> {

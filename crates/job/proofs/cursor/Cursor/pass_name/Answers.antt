@@ -1,11 +1,11 @@
 use Rattle.std.proofs.Common.{◌<◌, sym, ◌∙◌, arith}
 use Rattle.std.proofs.lemmas.Result.{err_from_is_err_and}
 use Rattle.job.proofs.Moves.{moved_on}
-use Rattle.job.proofs.Names.{good_next, good_not, good_end}
+use Rattle.job.proofs.Names.{good_next, good_not, good_end, byte_ends}
 use Rattle.job.proofs.cursor.Cursor.pass_name.Goals as goal
 
-pub returns-in_err-take_byte : goal.returns-in_err-take_byte
-returns-in_err-take_byte c =
+pub returns-in_err-take_byte-clause-reads : goal.returns-in_err-take_byte-clause-reads
+returns-in_err-take_byte-clause-reads c =
     let p = err_from_is_err_and c.from_residual.result c.from_residual.ensures.1 in
     let told = c.in_err-take_byte.ensures in
     let more : c.loop.counter < c.args.size = omega arith in
@@ -15,8 +15,8 @@ returns-in_err-take_byte c =
       moved = moved_on c.loop.invariant.1 told.moved;
     })
 
-pub returns-then-not-is_printable : goal.returns-then-not-is_printable
-returns-then-not-is_printable c =
+pub returns-then-not-is_printable-clause-reads : goal.returns-then-not-is_printable-clause-reads
+returns-then-not-is_printable-clause-reads c =
     let told = c.in_ok-take_byte.ensures in
     let more : c.loop.counter < c.args.size = omega arith in
     rw c.at.ensures (record {
@@ -30,4 +30,5 @@ loop-preserved c =
     let more : c.loop.counter < c.args.size = omega arith in (
       rw told.moved.same (sym (good_next c.args.size c.loop.counter _ _ more _ _ (sym told.reads) (sym c.if-not-is_printable.ensures)) ∙ c.loop.invariant.0),
       moved_on c.loop.invariant.1 told.moved,
+      (let step = byte_ends _ _ _ _ told.reads in omega arith),
     )

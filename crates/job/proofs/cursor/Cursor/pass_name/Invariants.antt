@@ -1,4 +1,4 @@
-use Rattle.std.proofs.Common.{◌≡◌, ◌-◌}
+use Rattle.std.proofs.Common.{◌≡◌, ◌+◌, ◌-◌}
 use Rattle.job.specs.Format.{good_bytes}
 use Rattle.job.specs.Reads.{Moved}
 use Rattle.job.proofs.cursor.Cursor.pass_name.Given as goal
@@ -8,3 +8,4 @@ abbrev pub invariant-loop : goal.invariant-loop
 invariant-loop l =
     (good_bytes (l.size - l.counter) l.self.job.now l.self.at ≡ good_bytes l.size l.initial.self.job.now l.initial.self.at)
     × Moved l.initial.self l.self
+    × (l.self.at ≡ l.initial.self.at + l.counter)

@@ -1,6 +1,8 @@
-use Rattle.std.proofs.Common.{◌≡◌, ◌+◌, ◌≤◌, Ok, Err, Result, refl, arith}
+use Rattle.std.proofs.Common.{◌≡◌, ◌+◌, ◌≤◌, Ok, Err, Result, refl, rules, arith}
+use Rattle.std.proofs.lemmas.Result.{err_from_is_err_and}
 use Rattle.std.specs.Result.{MatchResult, IsErrAnd}
-use Rattle.job.proofs.Advance.{passes}
+use Rattle.job.specs.Reading.{standing, answered, next_answer}
+use Rattle.job.proofs.Advance.{passes, fault_within}
 use Rattle.job.proofs.reader.Reader.next_record.Goals as goal
 
 -- a result whose error was mapped, and which is a value, was that value before
@@ -21,3 +23,10 @@ returns-clause-advances c =
     let was : c.take_record.result ≡ Ok c.in_ok-record.record = before_map _ _ _ _ c.map_err.ensures.cases c.in_ok-record.was in
     let passed = passes _ _ _ _ (rw was at c.take_record.ensures.reads) in
     record { same = refl; forward = passed.0.forth; within = passed.0.within; counted = refl; names = passed.1 }
+
+pub returns-in_err-record-clause-small : goal.returns-in_err-record-clause-small
+returns-in_err-record-clause-small c =
+    let reader = c.args.self.now in
+    let told : answered c.from_residual.result ≡ next_answer (standing reader) = search rules in
+    let p = err_from_is_err_and c.from_residual.result c.from_residual.ensures.1 in
+    rw p.1 (fault_within (standing reader) p.0 (omega (arith, reader.mark.counted, reader.within)) reader.small (rw p.1 at told))

@@ -1,0 +1,104 @@
+-- A floor whose rows are set stays so: with a row more, and with a cell placed.
+use Rattle.std.proofs.Common.{◌≡◌, ℕ, ◌<◌, Bool, true, false, List, [], length, get_or, filter, map, Some, None, Option, sym, refl, ap, ◌∙◌, subst, ⊎_elim, arith}
+use Rattle.std.proofs.ByRecursion.{All-get_or, All-from_get_or, All-weaker}
+use Rattle.std.proofs.lemmas.Bool.{cases_Bool}
+use Rattle.std.specs.List.{AllByRecursion}
+use Rattle.measure.specs.Costs.{Fair}
+use Rattle.row.specs.Records.{row_ahead}
+use Rattle.row.specs.Sites.{row_sites}
+use Rattle.row.specs.declared.Cell.{Cell}
+use Rattle.row.specs.declared.Row.{Row}
+use Rattle.row.specs.Task.{changed}
+use Rattle.row.proofs.Ranges.{RangedRow, ranged_row}
+use Rattle.table.proofs.Inserted.{put_all, inserted_is}
+use Rattle.floor.specs.Calls.{chosen, seated, seated_on, seats_after_place, with_row, rows_after}
+use Rattle.floor.specs.Formed.{formed}
+use Rattle.floor.specs.Refusals.{has_sites, add_refusal, place_refusal}
+use Rattle.floor.specs.Rows.{same_row, share}
+use Rattle.floor.specs.Seats.{on_row, seats_on, cells_on, sites_on, joined, settled}
+use Rattle.floor.specs.Settled.{Settled}
+use Rattle.floor.specs.declared.Refusal.{Refusal}
+use Rattle.floor.specs.declared.Seat.{Seat}
+use Rattle.floor.proofs.Defaults.{no_row}
+use Rattle.floor.proofs.Joining.{joined_others}
+use Rattle.floor.proofs.Kept.{kept_none}
+use Rattle.floor.proofs.Listed.{Standing, Listed, formed_listed, standing_at, standing_all, standing_one, standing_passes}
+use Rattle.floor.proofs.Placed.{Good, chosen_good}
+use Rattle.floor.proofs.Ready.{ready_standing}
+use Rattle.floor.proofs.Resited.{resited_cells_on, resited_sites_on, resited_others}
+use Rattle.floor.proofs.Rowed.{apart_new, ranged_new, shared_same}
+use Rattle.floor.proofs.Settling.{sites_long}
+
+-- a row is set: its sites are those that `set` gives its cells
+abbrev pub IsSet : (ℕ → ℕ → ℕ → ℕ) → List Seat → Row → Type 0
+IsSet f seats row = sites_on row seats ≡ row_sites f row (cells_on row seats)
+
+-- what holds of standing rows, and so of all
+all_standing : (P Q : Row → Type 0) (rows : List Row) → ((row : Row) → Standing rows row → P row → Q row) → AllByRecursion P rows → AllByRecursion Q rows
+all_standing P Q rows give all =
+    All-from_get_or Q rows no_row (λ i within. give (get_or rows i no_row) (standing_at rows i no_row within) (All-get_or P rows i no_row within all))
+
+-- a row with the seats that it had is set as it was
+set_same : (f : ℕ → ℕ → ℕ → ℕ) (row : Row) (before after : List Seat) → seats_on row after ≡ seats_on row before → IsSet f before row → IsSet f after row
+set_same f row before after same is =
+    ap (map (λ s. s.site)) same ∙ (is ∙ sym (ap (λ l. row_sites f row (map (λ s. s.cell) l)) same))
+
+module _ (f : ℕ → ℕ → ℕ → ℕ) (fair : Fair f) (rows : List Row) (seats : List Seat) (well : formed rows seats ≡ true) (set : Settled f rows seats) where
+  module _ (cell : Cell) (none : place_refusal rows seats cell ≡ None) (row : Row) (stands : Standing rows row) (fits : has_sites seats cell row ≡ true) where
+    -- the row that took the cell is set
+    own_set : IsSet f (seated f seats cell row) row
+    own_set =
+        let cs = cells_on row (joined row cell seats) in
+        resited_sites_on row (row_sites f row cs) (joined row cell seats) (sites_long f fair row (joined row cell seats) (ready_standing rows seats well cell none row stands fits))
+        ∙ sym (ap (row_sites f row) (resited_cells_on row (row_sites f row cs) (joined row cell seats)))
+
+    -- another is as it was
+    other_set : (r : Row) → same_row r row ≡ false → IsSet f seats r → IsSet f (seated f seats cell row) r
+    other_set r other is =
+        set_same f r seats (seated f seats cell row)
+        (resited_others row r other (row_sites f row (cells_on row (joined row cell seats))) (joined row cell seats) ∙ joined_others row cell seats r other) is
+
+    seated_settled : Settled f rows (seated f seats cell row)
+    seated_settled =
+        all_standing (IsSet f seats) (IsSet f (seated f seats cell row)) rows
+        (λ r there is.
+        ⊎_elim
+        (λ same. subst (IsSet f (seated f seats cell row)) (sym (standing_one rows (formed_listed rows seats well).well r row there stands same)) own_set)
+        (λ other. other_set r other is)
+        (cases_Bool (same_row r row)))
+        set
+
+  on_settled : (cell : Cell) → place_refusal rows seats cell ≡ None → (o : Option Row) → chosen f seats cell rows ≡ o → Settled f rows (seated_on f seats cell o)
+  on_settled cell none None is = set
+  on_settled cell none (Some row) is = let good = chosen_good f rows seats cell row is in seated_settled cell none row good.stands good.fits
+
+  after_settled : (cell : Cell) (o : Option Refusal) → place_refusal rows seats cell ≡ o → Settled f rows (changed o (seated_on f seats cell (chosen f seats cell rows)) seats)
+  after_settled cell None is = on_settled cell is (chosen f seats cell rows) refl
+  after_settled cell (Some refusal) is = set
+
+  -- a floor that is set stays set when a cell is placed
+  pub place_settled : (cell : Cell) → Settled f rows (seats_after_place f rows seats cell)
+  place_settled cell = after_settled cell (place_refusal rows seats cell) refl
+
+  -- no seat is on a new row
+  none_on : (row : Row) → add_refusal rows row ≡ None → seats_on row seats ≡ []
+  none_on row none =
+      let listed = formed_listed rows seats well in
+      let ranged : (r : Row) → Standing rows r → RangedRow r = λ r there. ranged_row r (standing_passes rows listed.well r there) in
+      kept_none (on_row row) seats
+      (All-weaker (λ s. Standing rows s.row) (λ s. on_row row s ≡ false)
+      (λ s there. shared_same row s.row (ranged_new rows row none) (ranged s.row there) (standing_all (λ r. share row r ≡ false) rows s.row (apart_new rows row none) there))
+      seats listed.stand)
+
+  new_set : (row : Row) → add_refusal rows row ≡ None → IsSet f seats row
+  new_set row none =
+      let empty = none_on row none in
+      ap (map (λ s. s.site)) empty ∙ sym (ap (λ l. row_sites f row (map (λ s. s.cell) l)) empty)
+
+  rows_settled : (row : Row) (o : Option Refusal) → add_refusal rows row ≡ o → Settled f (changed o (with_row rows row) rows) seats
+  rows_settled row None is = subst (λ rs. Settled f rs seats) (sym (inserted_is row_ahead row rows)) (put_all row_ahead row (IsSet f seats) rows (new_set row is) set)
+  rows_settled row (Some refusal) is = set
+
+  -- and when a row is added
+  pub add_settled : (row : Row) → Settled f (rows_after rows row) seats
+  add_settled row = rows_settled row (add_refusal rows row) refl

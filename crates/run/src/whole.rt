@@ -1,0 +1,89 @@
+// Carrying out a whole job: the lines of its records, of the cells that stand then, and of what they cost.
+ghost use Rattle.std.specs.Prelude.{◌≡◌, ◌≤◌, length};
+ghost use Rattle.floor.specs.State.{seats_of, measure_of};
+ghost use Rattle.floor.specs.Seats.{floor_cost};
+ghost use Rattle.lines.specs.Texts.{cost_text, name_of, text};
+ghost use Rattle.measure.specs.Names.{named_price};
+ghost use Rattle.run.specs.State.{state};
+ghost use Rattle.run.specs.Texts.{Appends, Steps, cell_texts, job_text};
+
+use crate::fault::Fault;
+use crate::run::Run;
+use floor::Floor;
+use job::{Job, MeasureName};
+use lines::{LEAST_BUFFER, Line};
+use std::alloc::{AllocError, Global};
+
+// The most cells that stand on a floor.
+const MOST_CELLS: usize = 1_024;
+
+// Carries out the records that are left, and adds a line for each.
+fn put_steps(out: &mut Vec<u8>, run: &mut Run<'_, MeasureName>) -> Result<(), AllocError>
+    ensures lines { Steps (named_price (measure_of run.old.floor)) out.old (state run.old) result out.new (state run.new) }
+    ensures same { measure_of run.new.floor ≡ measure_of run.old.floor }
+{
+    let mut buffer = [0; LEAST_BUFFER];
+    loop {
+        match run.step(&mut buffer) {
+            Ok(next) => match next {
+                Some(step) => out.extend_from_slice(&buffer[..step.length])?,
+                None => return Ok(()),
+            },
+            Err(_) => return Ok(()),
+        }
+    }
+}
+
+// Adds a line for each cell that stands.
+fn put_cells(out: &mut Vec<u8>, run: &Run<'_, MeasureName>) -> Result<(), AllocError>
+    ensures { Appends out.old result (cell_texts (seats_of run.now.floor)) out.new }
+{
+    let mut buffer = [0; LEAST_BUFFER];
+    for k in 0..MOST_CELLS {
+        match run.cell_line(k, &mut buffer) {
+            Ok(length) => out.extend_from_slice(&buffer[..length])?,
+            Err(_) => return Ok(()),
+        }
+    }
+    Ok(())
+}
+
+// Adds the line of what all standing cells cost.
+fn put_cost(out: &mut Vec<u8>, run: &Run<'_, MeasureName>) -> Result<(), AllocError>
+    ensures { Appends out.old result (cost_text (floor_cost (named_price (measure_of run.now.floor)) (seats_of run.now.floor))) out.new }
+{
+    let mut buffer = [0; LEAST_BUFFER];
+    match run.cost_line(&mut buffer) {
+        Ok(length) => out.extend_from_slice(&buffer[..length]),
+        Err(_) => unreachable!(),
+    }
+}
+
+// Adds a line.
+fn put_line(out: &mut Vec<u8>, line: Line<'_>) -> Result<(), AllocError>
+    requires { length (name_of line) ≤ 255 }
+    ensures { Appends out.old result (text line.entry) out.new }
+{
+    let mut buffer = [0; LEAST_BUFFER];
+    match line.write(&mut buffer) {
+        Ok(length) => out.extend_from_slice(&buffer[..length]),
+        Err(_) => unreachable!(),
+    }
+}
+
+// Carries out a whole job, and adds a line for each record, a line for each cell that stands then, and one for what they cost.
+// A job that cannot be opened gives only the line that says so.
+pub fn carry_out(heap: Global, out: &mut Vec<u8>, bytes: &[u8]) -> Result<(), AllocError>
+    ensures { Appends out.old result (job_text bytes.now) out.new }
+{
+    match Job::open(bytes) {
+        Ok(job) => {
+            let floor = Floor::new(heap, job.measure())?;
+            let mut run = Run::new(&job, floor);
+            put_steps(out, &mut run)?;
+            put_cells(out, &run)?;
+            put_cost(out, &run)
+        }
+        Err(unread) => put_line(out, Fault::from(unread).line(None)),
+    }
+}
