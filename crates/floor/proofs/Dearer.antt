@@ -1,5 +1,5 @@
 -- A granted placing's rise is what the floor costs more, where the floor's rows were set.
-use Rattle.std.proofs.Common.{◌≡◌, ℕ, ◌+◌, true, List, length, Some, None, Ok, Option, refl, ap, ◌∙◌, arith}
+use Rattle.std.proofs.Common.{◌≡◌, ℕ, ◌+◌, true, List, Some, None, Ok, Option, refl, ap, ◌∙◌, arith}
 use Rattle.measure.specs.Costs.{Fair}
 use Rattle.row.specs.declared.Cell.{Cell}
 use Rattle.row.specs.declared.Row.{Row}
@@ -14,20 +14,20 @@ use Rattle.floor.specs.declared.Refusal.{Refusal}
 use Rattle.floor.specs.declared.Refusal.TheVariants.{NoRoom}
 use Rattle.floor.specs.declared.Seat.{Seat}
 use Rattle.floor.proofs.Best.{same_ok, not_ok}
-use Rattle.floor.proofs.Joining.{row_ready}
+use Rattle.floor.proofs.Joining.{placeable, row_ready}
 use Rattle.floor.proofs.Keeping.{IsSet}
 use Rattle.floor.proofs.Listed.{standing_all}
-use Rattle.floor.proofs.Placed.{chosen_good}
-use Rattle.floor.proofs.Ready.{able, ready_standing}
+use Rattle.floor.proofs.Placed.{chosen_good, free_cell}
+use Rattle.floor.proofs.Ready.{ready_standing}
 use Rattle.floor.proofs.Risen.{rise_is}
 
 module _ (f : ℕ → ℕ → ℕ → ℕ) (fair : Fair f) (rows : List Row) (seats : List Seat) (well : formed rows seats ≡ true) (set : Settled f rows seats) (cell : Cell) (placing : Placing) where
   row_dearer : place_refusal rows seats cell ≡ None → (row : Row) → chosen f seats cell rows ≡ Some row → floor_cost f (seated f seats cell row) ≡ floor_cost f seats + rise f seats cell row
   row_dearer none row is =
       let good = chosen_good f rows seats cell row is in
-      let can = able rows seats well cell none in
+      let can = placeable seats cell (free_cell rows seats cell none) in
       let few = can.few in
-      rise_is f row cell seats fair can.passes (row_ready rows seats row well good.stands (omega arith)) (ready_standing rows seats well cell none row good.stands good.fits) (standing_all (IsSet f seats) rows row set good.stands)
+      rise_is f row cell seats fair can.passes (row_ready rows seats row well good.stands (omega arith)) (ready_standing rows seats well cell can row good.stands good.fits) (standing_all (IsSet f seats) rows row set good.stands)
 
   on_dearer : place_refusal rows seats cell ≡ None → (o : Option Row) → chosen f seats cell rows ≡ o → placed_on f seats cell o ≡ Ok placing → floor_cost f (seated_on f seats cell o) ≡ floor_cost f seats + placing.rise
   on_dearer none None is e = absurd (not_ok f rows seats well cell NoRoom placing e)

@@ -1,5 +1,5 @@
 -- A floor whose rows are set stays so: with a row more, and with a cell placed.
-use Rattle.std.proofs.Common.{◌≡◌, ℕ, ◌<◌, Bool, true, false, List, [], length, get_or, filter, map, Some, None, Option, sym, refl, ap, ◌∙◌, subst, ⊎_elim, arith}
+use Rattle.std.proofs.Common.{◌≡◌, ℕ, true, false, List, [], get_or, map, Some, None, Option, sym, refl, ap, ◌∙◌, subst, ⊎_elim}
 use Rattle.std.proofs.ByRecursion.{All-get_or, All-from_get_or, All-weaker}
 use Rattle.std.proofs.lemmas.Bool.{cases_Bool}
 use Rattle.std.specs.List.{AllByRecursion}
@@ -15,15 +15,15 @@ use Rattle.floor.specs.Calls.{chosen, seated, seated_on, seats_after_place, with
 use Rattle.floor.specs.Formed.{formed}
 use Rattle.floor.specs.Refusals.{has_sites, add_refusal, place_refusal}
 use Rattle.floor.specs.Rows.{same_row, share}
-use Rattle.floor.specs.Seats.{on_row, seats_on, cells_on, sites_on, joined, settled}
+use Rattle.floor.specs.Seats.{on_row, seats_on, cells_on, sites_on, joined}
 use Rattle.floor.specs.Settled.{Settled}
 use Rattle.floor.specs.declared.Refusal.{Refusal}
 use Rattle.floor.specs.declared.Seat.{Seat}
 use Rattle.floor.proofs.Defaults.{no_row}
-use Rattle.floor.proofs.Joining.{joined_others}
+use Rattle.floor.proofs.Joining.{joined_others, placeable}
 use Rattle.floor.proofs.Kept.{kept_none}
-use Rattle.floor.proofs.Listed.{Standing, Listed, formed_listed, standing_at, standing_all, standing_one, standing_passes}
-use Rattle.floor.proofs.Placed.{Good, chosen_good}
+use Rattle.floor.proofs.Listed.{Standing, formed_listed, standing_at, standing_all, standing_one, standing_passes}
+use Rattle.floor.proofs.Placed.{chosen_good, free_cell}
 use Rattle.floor.proofs.Ready.{ready_standing}
 use Rattle.floor.proofs.Resited.{resited_cells_on, resited_sites_on, resited_others}
 use Rattle.floor.proofs.Rowed.{apart_new, ranged_new, shared_same}
@@ -49,7 +49,7 @@ module _ (f : ℕ → ℕ → ℕ → ℕ) (fair : Fair f) (rows : List Row) (se
     own_set : IsSet f (seated f seats cell row) row
     own_set =
         let cs = cells_on row (joined row cell seats) in
-        resited_sites_on row (row_sites f row cs) (joined row cell seats) (sites_long f fair row (joined row cell seats) (ready_standing rows seats well cell none row stands fits))
+        resited_sites_on row (row_sites f row cs) (joined row cell seats) (sites_long f fair row (joined row cell seats) (ready_standing rows seats well cell (placeable seats cell (free_cell rows seats cell none)) row stands fits))
         ∙ sym (ap (row_sites f row) (resited_cells_on row (row_sites f row cs) (joined row cell seats)))
 
     -- another is as it was
@@ -80,6 +80,7 @@ module _ (f : ℕ → ℕ → ℕ → ℕ) (fair : Fair f) (rows : List Row) (se
   pub place_settled : (cell : Cell) → Settled f rows (seats_after_place f rows seats cell)
   place_settled cell = after_settled cell (place_refusal rows seats cell) refl
 
+module _ (f : ℕ → ℕ → ℕ → ℕ) (rows : List Row) (seats : List Seat) (well : formed rows seats ≡ true) (set : Settled f rows seats) where
   -- no seat is on a new row
   none_on : (row : Row) → add_refusal rows row ≡ None → seats_on row seats ≡ []
   none_on row none =

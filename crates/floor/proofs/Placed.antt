@@ -76,6 +76,16 @@ not_refused rows seats cell none sites = refuses (option_map OutOfRange (cell_fa
     refuses None true false some e sites = e
     refuses None true true some e sites = cond-true some None (Some NoRoom) sites
 
+-- and where nothing is refused, the checks that do not look at the rows refuse nothing
+pub free_cell : (rows : List Row) (seats : List Seat) (cell : Cell) → place_refusal rows seats cell ≡ None → cell_refusal seats cell ≡ None
+free_cell rows seats cell none = free (option_map OutOfRange (cell_fault cell)) (not (stands cell.number seats)) (ltb (length seats) 1024) (any (has_sites seats cell) rows) none
+  where
+    free : (fault : Option Refusal) (fresh few some : Bool) → then fault (check fresh NumberStands (check few CellsFull (check some NoRoom None))) ≡ None → then fault (check fresh NumberStands (check few CellsFull None)) ≡ None
+    free (Some refusal) fresh few some e = e
+    free None false few some e = e
+    free None true false some e = e
+    free None true true some e = refl
+
 -- a seat that has joined is found by its number
 any_new : {X : Type 0} (ahead : X → X → Bool) (k : X) (test : X → Bool) (xs : List X) → test k ≡ true → any test (put_in ahead k xs) ≡ true
 any_new ahead k test [] own = or_left (test k) false own

@@ -1,7 +1,7 @@
 -- What the floor costs once a row has taken a cell: what it cost before, and the row's rise, which never goes below 0 where the row was set.
-use Rattle.std.proofs.Common.{◌≡◌, ℕ, ◌+◌, ◌-◌, ◌≤◌, Bool, true, false, cond, List, [], ◌∷◌, ◌++◌, map, length, take, drop, filter, sym, refl, ap, ◌∙◌, subst, arith}
+use Rattle.std.proofs.Common.{◌≡◌, ℕ, ◌+◌, ◌≤◌, Bool, true, false, cond, List, [], ◌∷◌, ◌++◌, map, length, take, drop, refl, ap, ◌∙◌, subst, arith}
 use Rattle.std.proofs.lemmas.List.{take-append-drop, map-append}
-use Rattle.std.specs.List.{insert, AllByRecursion}
+use Rattle.std.specs.List.{insert}
 use Rattle.measure.specs.Costs.{Fair}
 use Rattle.row.specs.Sites.{row_sites, sites_cost}
 use Rattle.row.specs.Stack.{Passes, Ready}

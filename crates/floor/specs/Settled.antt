@@ -1,7 +1,8 @@
 -- A floor whose rows are set, and the row that a placed cell goes to.
 --   Settled      every row's sites are those that `set` gives its cells
+--   CostsMore    a floor costs the rise of a placing more than before
 --   Least        a placing went to a row that has sites, no row with sites rises less, and one that is ahead in row order rises more
-use Rattle.std.specs.Prelude.{◌≡◌, ℕ, ◌<◌, ◌≤◌, true, List}
+use Rattle.std.specs.Prelude.{◌≡◌, ℕ, ◌+◌, ◌<◌, ◌≤◌, true, List}
 use Rattle.std.specs.List.{ContainsAt as Has, AllByRecursion}
 use Rattle.row.specs.Records.{row_ahead}
 use Rattle.row.specs.Sites.{row_sites}
@@ -9,7 +10,7 @@ use Rattle.row.specs.declared.Cell.{Cell}
 use Rattle.row.specs.declared.Row.{Row}
 use Rattle.floor.specs.Calls.{rise}
 use Rattle.floor.specs.Refusals.{has_sites}
-use Rattle.floor.specs.Seats.{cells_on, sites_on}
+use Rattle.floor.specs.Seats.{cells_on, sites_on, floor_cost}
 use Rattle.floor.specs.declared.Placing.{Placing}
 use Rattle.floor.specs.declared.Seat.{Seat}
 
@@ -26,3 +27,7 @@ pub record Least (price : ℕ → ℕ → ℕ → ℕ) (rows : List Row) (seats 
   pub rises : placing.rise ≡ rise price seats cell row
   pub least : AllByRecursion (λ other. has_sites seats cell other ≡ true → placing.rise ≤ rise price seats cell other) rows
   pub first : AllByRecursion (λ other. has_sites seats cell other ≡ true → row_ahead other row ≡ true → placing.rise < rise price seats cell other) rows
+
+-- a floor with these seats costs the rise more than with those before
+abbrev pub CostsMore : (ℕ → ℕ → ℕ → ℕ) → List Seat → List Seat → Placing → Type 0
+CostsMore price before after placing = floor_cost price after ≡ floor_cost price before + placing.rise

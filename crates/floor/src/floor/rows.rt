@@ -1,9 +1,10 @@
 // Making a floor, and adding rows to it.
-ghost use Rattle.std.specs.Prelude.{◌≡◌, [], IfOk};
+ghost use Rattle.std.specs.Prelude.{◌≡◌, ℕ, [], IfOk};
 ghost use Rattle.row.specs.Checked.{checked};
 ghost use Rattle.floor.specs.Calls.{rows_after};
 ghost use Rattle.floor.specs.Refusals.{any, add_refusal};
 ghost use Rattle.floor.specs.Rows.{share};
+ghost use Rattle.floor.specs.Settled.{Settled};
 ghost use Rattle.floor.specs.State.{rows_of, seats_of};
 
 use crate::Refusal;
@@ -55,12 +56,14 @@ impl<M: Drop> Floor<M> {
         Ok(())
     }
 
-    // Adds a row in row order. No cell moves.
+    // Adds a row in row order. No cell moves, and a floor whose rows are set stays so, whatever its measure.
     pub fn add_row(&mut self, row: Row) -> Result<(), Refusal>
         ensures answer { checked result ≡ add_refusal (rows_of self.old) row }
         ensures rows { rows_of self.new ≡ rows_after (rows_of self.old) row }
         ensures seats { seats_of self.new ≡ seats_of self.old }
         ensures same { self.new.measure ≡ self.old.measure }
+        ensures stays_set { (price : ℕ → ℕ → ℕ → ℕ) → Settled price (rows_of self.old) (seats_of self.old)
+            → Settled price (rows_of self.new) (seats_of self.new) }
     {
         self.check_row(&row)?;
         let at = place_of(self.rows.as_slice(), &row);

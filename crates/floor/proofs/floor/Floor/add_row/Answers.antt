@@ -6,6 +6,8 @@ use Rattle.row.specs.Task.{changed}
 use Rattle.table.specs.Order.{Ordered, rank_of}
 use Rattle.floor.specs.Calls.{with_row}
 use Rattle.floor.specs.Formed.{formed}
+use Rattle.floor.specs.Settled.{Settled}
+use Rattle.floor.proofs.Keeping.{add_settled}
 use Rattle.floor.proofs.Rowed.{row_added, ordered_rows, not_full}
 use Rattle.floor.proofs.floor.Floor.add_row.Goals as goal
 
@@ -40,9 +42,11 @@ returns g c =
     let counted : vec_len c.args.self.now.rows ≡ length rows = c.args.self.now.rows.ok.0 in
     let few : length rows < 64 = not_full rows row (sym none) in
     let ok : is_ok c.insert.result ≡ true = c.insert.ensures.succeeds (omega arith) in
+    let after = c.insert.ensures.items ∙ cond-true (is_ok c.insert.result) _ _ ok ∙ ap (λ n. insert rows n row) at ∙ ap (λ refused. changed refused (with_row rows row) rows) none in
     record {
       answer = none;
-      rows = c.insert.ensures.items ∙ cond-true (is_ok c.insert.result) _ _ ok ∙ ap (λ n. insert rows n row) at ∙ ap (λ refused. changed refused (with_row rows row) rows) none;
+      rows = after;
       seats = refl;
       same = refl;
+      stays_set = λ price set. subst (λ rs. Settled price rs seats) (sym after) (add_settled price rows seats well set row);
     }

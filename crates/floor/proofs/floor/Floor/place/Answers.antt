@@ -2,7 +2,12 @@ use Rattle.std.proofs.Common.{IsSome, ap, ◌∙◌, sym, subst}
 use Rattle.std.specs.Option.{ok_or}
 use Rattle.floor.specs.Calls.{seat_of}
 use Rattle.floor.specs.Formed.{formed}
+use Rattle.floor.specs.Seats.{floor_cost}
+use Rattle.floor.specs.Settled.{Settled}
 use Rattle.floor.specs.declared.Refusal.TheVariants.{NoRoom}
+use Rattle.floor.proofs.Best.{place_least}
+use Rattle.floor.proofs.Dearer.{place_dearer}
+use Rattle.floor.proofs.Keeping.{place_settled}
 use Rattle.floor.proofs.Placed.{chose, answers, seats_then, seated_found}
 use Rattle.floor.proofs.floor.Floor.place.Goals as goal
 
@@ -34,3 +39,20 @@ returns-clause-seats g c =
     let self = c.args.self.now in
     let known = chose (g.met.M.Measure.fair self.measure) self.rows.items self.seats.items.items c.args.cell c.in_ok-choice.choice self.well (sym c.in_ok-check_cell.ensures) (c.in_ok-choice.ensures.value ∙ ap (λ o. ok_or o NoRoom) c.choose.ensures) in
     c.seat.ensures ∙ seats_then self.rows.items self.seats.items.items c.args.cell c.in_ok-choice.choice known
+
+pub returns-clause-least : goal.returns-clause-least
+returns-clause-least g c =
+    let self = c.args.self.now in
+    place_least (g.M.Measure.price self.measure) self.rows.items self.seats.items.items self.well c.args.cell _ (sym (returns-clause-answer g c))
+
+pub returns-clause-stays_set : goal.returns-clause-stays_set
+returns-clause-stays_set g c set =
+    let self = c.args.self.now in
+    let price = g.M.Measure.price self.measure in
+    subst (Settled price self.rows.items) (sym (returns-clause-seats g c)) (place_settled price (g.met.M.Measure.fair self.measure) self.rows.items self.seats.items.items self.well set c.args.cell)
+
+pub returns-clause-dearer : goal.returns-clause-dearer
+returns-clause-dearer g c set =
+    let self = c.args.self.now in
+    let price = g.M.Measure.price self.measure in
+    ap (floor_cost price) (returns-clause-seats g c) ∙ place_dearer price (g.met.M.Measure.fair self.measure) self.rows.items self.seats.items.items self.well set c.args.cell _ (sym (returns-clause-answer g c))
