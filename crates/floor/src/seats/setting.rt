@@ -29,6 +29,7 @@ fn move_to(seats: &mut [Seat], sites: &[u32])
     requires { length seats.old ≡ length sites.now }
     ensures { seats.new ≡ moved_all sites.now seats.old }
 {
+    // Tried with `zip`, from either side and with `for_each`: after it nothing is known of the seats, so the proof does not close.
     for (k, seat) in seats.iter_mut().enumerate() {
         seat.site = sites[k];
     }
