@@ -1,38 +1,21 @@
 -- What a floor that keeps its facts gives the functions that look at its rows.
-use Rattle.std.proofs.Common.{◌≡◌, ℕ, ◌<◌, ◌≤◌, true, not, List, length, get_or, is_some, arith}
-use Rattle.std.proofs.ByRecursion.{All-weaker}
-use Rattle.std.specs.List.{AllByRecursion}
+use Rattle.std.proofs.Common.{◌≡◌, ◌≤◌, true, not, List, is_some, arith}
 use Rattle.row.specs.Stack.{Ready}
 use Rattle.row.specs.declared.Cell.{Cell}
 use Rattle.row.specs.declared.Row.{Row}
 use Rattle.row.proofs.Ranges.{RangedRow, ranged_row}
-use Rattle.table.specs.Order.{Ordered}
 use Rattle.floor.specs.Formed.{formed}
 use Rattle.floor.specs.Refusals.{has_sites, cell_refusal}
-use Rattle.floor.specs.Seats.{Sited, seat_ahead, cells_on, joined}
+use Rattle.floor.specs.Seats.{cells_on, joined}
 use Rattle.floor.specs.declared.Seat.{Seat}
-use Rattle.floor.proofs.Defaults.{no_row}
 use Rattle.floor.proofs.Joining.{Placeable, placeable, joined_ready}
-use Rattle.floor.proofs.Known.{SeatKnown, all_known}
 use Rattle.floor.proofs.Tests.{none_found}
-use Rattle.floor.proofs.Listed.{Standing, formed_listed, standing_at, standing_passes}
+use Rattle.floor.proofs.Listed.{Standing, formed_listed, standing_passes}
 
 module _ (rows : List Row) (seats : List Seat) (well : formed rows seats ≡ true) where
-  pub ordered_seats : Ordered seat_ahead seats
-  ordered_seats = (formed_listed rows seats well).order
-
-  one_sited : (s : Seat) → SeatKnown s → Sited s
-  one_sited s k = let right = k.right in let row = k.ranged.right in (k.passes, omega arith)
-
-  pub sited_seats : AllByRecursion Sited seats
-  sited_seats = All-weaker SeatKnown Sited one_sited seats (all_known rows seats well)
-
   -- a standing row has its ranges
   pub ranged_standing : (row : Row) → Standing rows row → RangedRow row
   ranged_standing row stands = ranged_row row (standing_passes rows (formed_listed rows seats well).well row stands)
-
-  pub ranged_at : (i : ℕ) → i < length rows → RangedRow (get_or rows i no_row)
-  ranged_at i within = ranged_standing (get_or rows i no_row) (standing_at rows i no_row within)
 
   pub ready_standing : (cell : Cell) → Placeable seats cell → (row : Row) → Standing rows row → has_sites seats cell row ≡ true → Ready row (cells_on row (joined row cell seats))
   ready_standing cell can row stands fits = joined_ready row cell seats rows (formed_listed rows seats well) stands can fits

@@ -4,7 +4,6 @@ use mathlib.Core.List.{map-append}
 use Rattle.std.proofs.lemmas.List.Edits.{split_between}
 use Rattle.std.proofs.lemmas.List.Elements.{filter-append}
 use Rattle.std.proofs.ByRecursion.{All-take, All-drop, All-weaker, all_kept_by}
-use Rattle.std.proofs.lemmas.List.{drop-drop, take-append-drop}
 use Rattle.std.proofs.lemmas.Bool.{cond_both, cond-true, cond-false, both_ways, cases_Bool}
 use Rattle.std.proofs.lemmas.List.Sums.{length-filter, count_by-le-length}
 use Rattle.std.proofs.lemmas.Slice.{between_is}
@@ -38,11 +37,6 @@ low_high row s e = grind arith
 
 on_own : (row : Row) (cell : Cell) → on_row row (new_seat row cell) ≡ true
 on_own row cell = grind arith
-
--- what is left behind a place, cut at another
-pub drop_join : {X : Type 0} (xs : List X) (a b : ℕ) → a ≤ b → between a b xs ++ drop b xs ≡ drop a xs
-drop_join xs a b h =
-    ap (λ l. between a b xs ++ l) (sym (drop-drop (b - a) a xs ∙ ap (λ n. drop n xs) (omega arith))) ∙ take-append-drop (b - a) (drop a xs)
 
 module _ (row : Row) (seats : List Seat) (ordered : Ordered seat_ahead seats) (low_sites : AllByRecursion (λ s. s.cell.wanted.site ≤ 65535) seats) where
   abbrev low : ℕ

@@ -29,7 +29,7 @@ fn move_to(seats: &mut [Seat], sites: &[u32])
     requires { length seats.old ≡ length sites.now }
     ensures { seats.new ≡ moved_all sites.now seats.old }
 {
-    // By place: of what a `zip` with `iter_mut` has written an invariant has no name, so the proof does not close.
+    // Tried with `zip`, from either side and with `for_each`: after it nothing is known of the seats, so the proof does not close.
     for (k, seat) in seats.iter_mut().enumerate() {
         seat.site = sites[k];
     }
