@@ -6,6 +6,7 @@ use Rattle.std.proofs.lemmas.Option.{slice_get_cases, slice_get_within, slice_ge
 use Rattle.std.proofs.Math.Seq.{take-append_seam}
 use Rattle.floor.specs.declared.Seat.{Seat}
 use Rattle.lines.specs.Writes.{short_buffer}
+use Rattle.run.specs.State.{State}
 use Rattle.run.specs.Steps.{long, seat_text, seat_answer, seat_buffer, cell_answer, cell_buffer}
 use Rattle.run.specs.Texts.{cell_texts}
 use Rattle.run.specs.declared.run.looks.NoLine.{NoLine}
@@ -26,8 +27,8 @@ taken_by buffer n true (Some s) e answer = let is : n ≡ length (seat_text s) =
 taken_by buffer n false o e answer = absurd (cc)
 
 -- the line that was written is that of the k-th cell
-pub cell_taken : (seats : List Seat) (k n : ℕ) (buffer : List ℕ) → length buffer ≡ 320 → Ok n ≡ cell_answer seats k buffer → (s : Seat) × (slice_get seats k ≡ Some s) × (take n (cell_buffer seats k buffer) ≡ seat_text s)
-cell_taken seats k n buffer size answer = taken_by buffer n (long buffer) (slice_get seats k) (le-leb 320 (length buffer) (omega arith)) answer
+pub cell_taken : (t : State) (k n : ℕ) (buffer : List ℕ) → length buffer ≡ 320 → Ok n ≡ cell_answer t k buffer → (s : Seat) × (slice_get t.seats k ≡ Some s) × (take n (cell_buffer t k buffer) ≡ seat_text s)
+cell_taken t k n buffer size answer = taken_by buffer n (long buffer) (slice_get t.seats k) (le-leb 320 (length buffer) (omega arith)) answer
 
 none_by : (why : NoLine) (b : Bool) (o : Option Seat) → b ≡ true → Err why ≡ cond b (seat_answer o) (Err (ShortBuffer short_buffer)) → o ≡ None
 none_by why true None e answer = refl
@@ -35,7 +36,7 @@ none_by why true (Some s) e answer = absurd (cc)
 none_by why false o e answer = absurd (cc)
 
 -- where there is no line, there are no more cells
-pub no_cell : (seats : List Seat) (k : ℕ) (why : NoLine) (buffer : List ℕ) → length buffer ≡ 320 → Err why ≡ cell_answer seats k buffer → length seats ≤ k
-no_cell seats k why buffer size answer =
-    let none = none_by why (long buffer) (slice_get seats k) (le-leb 320 (length buffer) (omega arith)) answer in
-    ⊎_elim (λ some. absurd (let is = some.2 in cc)) (λ past. past.0) (slice_get_cases seats k).1
+pub no_cell : (t : State) (k : ℕ) (why : NoLine) (buffer : List ℕ) → length buffer ≡ 320 → Err why ≡ cell_answer t k buffer → length t.seats ≤ k
+no_cell t k why buffer size answer =
+    let none = none_by why (long buffer) (slice_get t.seats k) (le-leb 320 (length buffer) (omega arith)) answer in
+    ⊎_elim (λ some. absurd (let is = some.2 in cc)) (λ past. past.0) (slice_get_cases t.seats k).1

@@ -2,13 +2,17 @@
 --   long buffer                             whether a buffer takes every line
 --   line_answer, line_buffer                the length of a line that is written into a buffer, and the buffer then
 --   step_answer, step_state, step_buffer    what a step answers, and the state and the buffer after it
---   cell_text_of, cell_answer, cell_buffer  the line of a standing cell, what is answered for it, and the buffer then
+--   seat_text                               the line of a standing cell
+--   cell_answer, cell_buffer                what is answered for the line of the k-th standing cell, and the buffer then
+--   costs_text                              the line of what all standing cells cost
+--   no_line_number                          the number of a refusal of a line
 use Rattle.std.specs.Prelude.{ℕ, Bool, cond, List, ◌++◌, length, drop, Some, None, Ok, Err, Option, Result, nat_le, slice_get}
 use Rattle.std.specs.Option.{option_map}
 use Rattle.floor.specs.Refusals as refusals
 use Rattle.floor.specs.declared.Refusal.TheVariants as refusal
+use Rattle.floor.specs.Seats.{floor_cost}
 use Rattle.floor.specs.declared.Seat.{Seat}
-use Rattle.lines.specs.Texts.{cell_text}
+use Rattle.lines.specs.Texts.{cell_text, cost_text}
 use Rattle.lines.specs.Writes as writes
 use Rattle.lines.specs.Writes.{short_buffer}
 use Rattle.lines.specs.declared.ShortBuffer as short
@@ -80,9 +84,14 @@ abbrev pub seat_buffer : List ℕ → Option Seat → List ℕ
 seat_buffer buffer None = buffer
 seat_buffer buffer (Some s) = written (seat_text s) buffer
 
--- what is answered for the line of the k-th standing cell, and the buffer then
-abbrev pub cell_answer : List Seat → ℕ → List ℕ → Result ℕ NoLine
-cell_answer seats k buffer = cond (long buffer) (seat_answer (slice_get seats k)) (Err (ShortBuffer short_buffer))
+-- what is answered for the line of the k-th standing cell: the buffer is checked first
+abbrev pub cell_answer : State → ℕ → List ℕ → Result ℕ NoLine
+cell_answer s k buffer = cond (long buffer) (seat_answer (slice_get s.seats k)) (Err (ShortBuffer short_buffer))
 
-abbrev pub cell_buffer : List Seat → ℕ → List ℕ → List ℕ
-cell_buffer seats k buffer = cond (long buffer) (seat_buffer buffer (slice_get seats k)) buffer
+-- the buffer then
+abbrev pub cell_buffer : State → ℕ → List ℕ → List ℕ
+cell_buffer s k buffer = cond (long buffer) (seat_buffer buffer (slice_get s.seats k)) buffer
+
+-- the line of what all standing cells cost
+abbrev pub costs_text : (ℕ → ℕ → ℕ → ℕ) → State → List ℕ
+costs_text price s = cost_text (floor_cost price s.seats)

@@ -7,15 +7,13 @@
 use Rattle.std.specs.Prelude.{◌≡◌, ℕ, zero, suc, ◌+◌, true, List, [], ◌++◌, length, is_ok, Some, None, Ok, Err, vec_items, Option, Result, Vec}
 use Rattle.std.specs.List.{flat_map}
 use Rattle.std.specs.declared.alloc.Global.{Global}
-use Rattle.floor.specs.Seats.{floor_cost}
 use Rattle.floor.specs.declared.Seat.{Seat}
 use Rattle.job.specs.Opening.{Opened, open_answer}
 use Rattle.job.specs.declared.record.Fault as unread
-use Rattle.lines.specs.Texts.{cost_text}
 use Rattle.measure.specs.Names.{named_price}
 use Rattle.run.specs.Faults.{fault_text}
 use Rattle.run.specs.State.{State, started}
-use Rattle.run.specs.Steps.{seat_text}
+use Rattle.run.specs.Steps.{costs_text, seat_text}
 use Rattle.run.specs.Turns.{Said, turn}
 use Rattle.run.specs.declared.fault.Fault.TheVariants.{Unread}
 
@@ -31,7 +29,7 @@ turn_text end after (Some t) = t.0.line ++ after t.1
 module _ (price : ℕ → ℕ → ℕ → ℕ) where
   -- what is said at a job's end
   abbrev pub end_text : State → List ℕ
-  end_text s = cell_texts s.seats ++ cost_text (floor_cost price s.seats)
+  end_text s = cell_texts s.seats ++ costs_text price s
 
   -- what is said from a state on, with at most so many steps
   abbrev pub run_text : ℕ → State → List ℕ

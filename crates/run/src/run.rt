@@ -6,7 +6,7 @@ ghost use Rattle.job.specs.Opening.{as_opened};
 ghost use Rattle.lines.specs.Texts.{named, name_of};
 ghost use Rattle.run.specs.Faults.{Small};
 ghost use Rattle.run.specs.Parts.{as_said, ended_now, said_of};
-ghost use Rattle.run.specs.State.{state, started};
+ghost use Rattle.run.specs.State.{measure_in, started, state};
 ghost use Rattle.run.specs.Steps.{state_left, step_answer, step_state, step_buffer};
 ghost use Rattle.run.specs.Turns.{told, turn};
 
@@ -48,7 +48,7 @@ impl<'a, M: Measure> Run<'a, M> {
     // A run that has read nothing of a job, on a floor.
     pub fn new(job: &Job<'a>, floor: Floor<M>) -> Run<'a, M>
         ensures state { state result ≡ started (as_opened job.now).bytes (rows_of floor) (seats_of floor) }
-        ensures same { measure_of result.floor ≡ measure_of floor }
+        ensures same { measure_in result ≡ measure_of floor }
     {
         Run {
             reader: job.reader(),
@@ -84,9 +84,9 @@ impl<'a, M: Measure + Drop> Run<'a, M> {
 
     // Reads the next record and carries it out; answers what is said of it, or none where the job has ended.
     fn turn(&mut self) -> Option<Said<'a>>
-        ensures said { option_map as_said result ≡ option_map said_of (turn (M.price (measure_of self.old.floor)) (state self.old)) }
-        ensures after { state self.new ≡ state_left (state self.old) (turn (M.price (measure_of self.old.floor)) (state self.old)) }
-        ensures same { measure_of self.new.floor ≡ measure_of self.old.floor }
+        ensures said { option_map as_said result ≡ option_map said_of (turn (M.price (measure_in self.old)) (state self.old)) }
+        ensures after { state self.new ≡ state_left (state self.old) (turn (M.price (measure_in self.old)) (state self.old)) }
+        ensures same { measure_in self.new ≡ measure_in self.old }
         ensures short { IfSome result (λ said. length (name_of said.line) ≤ 255) }
     {
         if self.ended {
@@ -107,10 +107,10 @@ impl<'a, M: Measure + Drop> Run<'a, M> {
     // Carries out the next record and writes its line; answers the line's length and the run's fault if there was one,
     // or none where the job has ended. A short buffer is refused, and then nothing changes; the buffer past the line stays.
     pub fn step(&mut self, buffer: &mut [u8]) -> Result<Option<Step>, ShortBuffer>
-        ensures answer { result ≡ step_answer (M.price (measure_of self.old.floor)) (state self.old) buffer.old }
-        ensures after { state self.new ≡ step_state (M.price (measure_of self.old.floor)) (state self.old) buffer.old }
-        ensures line { buffer.new ≡ step_buffer (M.price (measure_of self.old.floor)) (state self.old) buffer.old }
-        ensures same { measure_of self.new.floor ≡ measure_of self.old.floor }
+        ensures answer { result ≡ step_answer (M.price (measure_in self.old)) (state self.old) buffer.old }
+        ensures after { state self.new ≡ step_state (M.price (measure_in self.old)) (state self.old) buffer.old }
+        ensures line { buffer.new ≡ step_buffer (M.price (measure_in self.old)) (state self.old) buffer.old }
+        ensures same { measure_in self.new ≡ measure_in self.old }
         ensures fits { IfOk result (λ step. IfSome step (λ s. s.length ≤ 320)) }
     {
         if buffer.len() < LEAST_BUFFER {

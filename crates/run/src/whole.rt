@@ -1,10 +1,9 @@
 // Carrying out a whole job: the lines of its records, of the cells that stand then, and of what they cost.
 ghost use Rattle.std.specs.Prelude.{◌≡◌, ◌≤◌, length};
-ghost use Rattle.floor.specs.State.{seats_of, measure_of};
-ghost use Rattle.floor.specs.Seats.{floor_cost};
-ghost use Rattle.lines.specs.Texts.{cost_text, name_of, text};
+ghost use Rattle.lines.specs.Texts.{name_of, text};
 ghost use Rattle.measure.specs.Names.{named_price};
-ghost use Rattle.run.specs.State.{state};
+ghost use Rattle.run.specs.State.{measure_in, state};
+ghost use Rattle.run.specs.Steps.{costs_text};
 ghost use Rattle.run.specs.Texts.{Appends, Steps, cell_texts, job_text};
 
 use crate::fault::Fault;
@@ -19,8 +18,8 @@ const MOST_CELLS: usize = 1_024;
 
 // Carries out the records that are left, and adds a line for each.
 fn put_steps(out: &mut Vec<u8>, run: &mut Run<'_, MeasureName>) -> Result<(), AllocError>
-    ensures lines { Steps (named_price (measure_of run.old.floor)) out.old (state run.old) result out.new (state run.new) }
-    ensures same { measure_of run.new.floor ≡ measure_of run.old.floor }
+    ensures lines { Steps (named_price (measure_in run.old)) out.old (state run.old) result out.new (state run.new) }
+    ensures same { measure_in run.new ≡ measure_in run.old }
 {
     let mut buffer = [0; LEAST_BUFFER];
     loop {
@@ -36,7 +35,7 @@ fn put_steps(out: &mut Vec<u8>, run: &mut Run<'_, MeasureName>) -> Result<(), Al
 
 // Adds a line for each cell that stands.
 fn put_cells(out: &mut Vec<u8>, run: &Run<'_, MeasureName>) -> Result<(), AllocError>
-    ensures { Appends out.old result (cell_texts (seats_of run.now.floor)) out.new }
+    ensures { Appends out.old result (cell_texts (state run.now).seats) out.new }
 {
     let mut buffer = [0; LEAST_BUFFER];
     for k in 0..MOST_CELLS {
@@ -50,7 +49,7 @@ fn put_cells(out: &mut Vec<u8>, run: &Run<'_, MeasureName>) -> Result<(), AllocE
 
 // Adds the line of what all standing cells cost.
 fn put_cost(out: &mut Vec<u8>, run: &Run<'_, MeasureName>) -> Result<(), AllocError>
-    ensures { Appends out.old result (cost_text (floor_cost (named_price (measure_of run.now.floor)) (seats_of run.now.floor))) out.new }
+    ensures { Appends out.old result (costs_text (named_price (measure_in run.now)) (state run.now)) out.new }
 {
     let mut buffer = [0; LEAST_BUFFER];
     match run.cost_line(&mut buffer) {

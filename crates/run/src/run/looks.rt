@@ -1,9 +1,7 @@
 // The lines of what stands: where each cell stands, and what the floor costs.
 ghost use Rattle.std.specs.Prelude.{◌≡◌, ◌≤◌, IfOk};
-ghost use Rattle.floor.specs.Seats.{floor_cost};
-ghost use Rattle.floor.specs.State.{seats_of, measure_of};
-ghost use Rattle.lines.specs.Texts.{cost_text};
-ghost use Rattle.run.specs.Steps.{cell_answer, cell_buffer, line_answer, line_buffer, no_line_number};
+ghost use Rattle.run.specs.State.{measure_in, state};
+ghost use Rattle.run.specs.Steps.{cell_answer, cell_buffer, costs_text, line_answer, line_buffer, no_line_number};
 ghost use Rattle.run.specs.declared.run.looks.NoLine.TheVariants as no_line;
 
 use crate::run::Run;
@@ -42,8 +40,8 @@ impl<'a, M: Measure> Run<'a, M> {
     // Writes where the k-th standing cell stands, from 0, in row order and then by site; answers the line's length.
     // Refuses a short buffer, and then a `k` at which no cell stands; the buffer past the line stays.
     pub fn cell_line(&self, k: usize, buffer: &mut [u8]) -> Result<usize, NoLine>
-        ensures answer { result ≡ cell_answer (seats_of self.now.floor) k buffer.old }
-        ensures after { buffer.new ≡ cell_buffer (seats_of self.now.floor) k buffer.old }
+        ensures answer { result ≡ cell_answer (state self.now) k buffer.old }
+        ensures after { buffer.new ≡ cell_buffer (state self.now) k buffer.old }
         ensures fits { IfOk result (λ end. end ≤ 320) }
     {
         if buffer.len() < LEAST_BUFFER {
@@ -60,8 +58,8 @@ impl<'a, M: Measure> Run<'a, M> {
 
     // Writes what all standing cells cost; answers the line's length. The buffer past it stays.
     pub fn cost_line(&self, buffer: &mut [u8]) -> Result<usize, ShortBuffer>
-        ensures answer { result ≡ line_answer (cost_text (floor_cost (M.price (measure_of self.now.floor)) (seats_of self.now.floor))) buffer.old }
-        ensures after { buffer.new ≡ line_buffer (cost_text (floor_cost (M.price (measure_of self.now.floor)) (seats_of self.now.floor))) buffer.old }
+        ensures answer { result ≡ line_answer (costs_text (M.price (measure_in self.now)) (state self.now)) buffer.old }
+        ensures after { buffer.new ≡ line_buffer (costs_text (M.price (measure_in self.now)) (state self.now)) buffer.old }
         ensures fits { IfOk result (λ end. end ≤ 320) }
     {
         let line: Line<'a> = Line::Cost {

@@ -1,9 +1,9 @@
 // Carrying out one record on the floor.
 ghost use Rattle.std.specs.Prelude.{◌≡◌, ◌≤◌, length, IfErr, IfOk, IfSome};
-ghost use Rattle.floor.specs.State.{rows_of, seats_of, measure_of};
 ghost use Rattle.job.specs.Reads.{content};
 ghost use Rattle.lines.specs.Texts.{named, name_of};
 ghost use Rattle.run.specs.Faults.{Small};
+ghost use Rattle.run.specs.State.{measure_in, state};
 ghost use Rattle.run.specs.Turns.{name_in, record_said, rows_left, seats_left, told};
 
 use crate::fault::{Fault, Refused};
@@ -34,10 +34,10 @@ impl<'a, M: Measure + Drop> Run<'a, M> {
     ) -> Result<Line<'a>, Fault>
         requires index { index ≤ 65535 }
         requires place { place ≤ 65535 }
-        ensures said { told (name_in (content found.entry)) result ≡ record_said (M.price (measure_of self.old.floor)) (rows_of self.old.floor) (seats_of self.old.floor) index place (content found.entry) }
-        ensures rows { rows_of self.new.floor ≡ rows_left (rows_of self.old.floor) (content found.entry) }
-        ensures seats { seats_of self.new.floor ≡ seats_left (M.price (measure_of self.old.floor)) (rows_of self.old.floor) (seats_of self.old.floor) (content found.entry) }
-        ensures same { measure_of self.new.floor ≡ measure_of self.old.floor }
+        ensures said { told (name_in (content found.entry)) result ≡ record_said (M.price (measure_in self.old)) (state self.old).rows (state self.old).seats index place (content found.entry) }
+        ensures rows { (state self.new).rows ≡ rows_left (state self.old).rows (content found.entry) }
+        ensures seats { (state self.new).seats ≡ seats_left (M.price (measure_in self.old)) (state self.old).rows (state self.old).seats (content found.entry) }
+        ensures same { measure_in self.new ≡ measure_in self.old }
         ensures reader { self.new.reader ≡ self.old.reader }
         ensures ended { self.new.ended ≡ self.old.ended }
         ensures short { IfOk result (λ line. length (name_of line) ≤ 255) }

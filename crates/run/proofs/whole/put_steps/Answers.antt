@@ -1,7 +1,6 @@
 use Rattle.std.proofs.Common.{◌≡◌, ℕ, ◌+◌, ◌-◌, ◌<◌, ◌≤◌, Bool, true, false, cond, suc, ◌++◌, length, take, vec_items, refl, sym, ap, subst, ◌∙◌, arith}
-use Rattle.floor.specs.State.{measure_of}
 use Rattle.measure.specs.Names.{named_price}
-use Rattle.run.specs.State.{State, state}
+use Rattle.run.specs.State.{State, measure_in, state}
 use Rattle.run.specs.Steps.{step_state, step_buffer}
 use Rattle.run.specs.Texts.{end_text, run_text}
 use Rattle.run.proofs.Turns.{left, turn_left, step_taken, no_step, next_turn, last_turn}
@@ -20,7 +19,7 @@ loop-next-init c =
 pub loop-next-smaller : goal.loop-next-smaller
 loop-next-smaller c =
     let inv = c.loop-next.invariant in
-    let price = named_price (measure_of c.args.run.now.floor) in
+    let price = named_price (measure_in c.args.run.now) in
     let s = state c.loop-next.run in
     let told = c.step.ensures in
     let taken = step_taken price s c.loop-next.buffer c.step.new.buffer c.in-Some.step (state c.step.new.self) inv.4 (rw (c.in-Some.is, inv.3) at c.in-Ok.ensures.answer) (rw inv.3 at told.after) (rw inv.3 at told.line) in
@@ -29,7 +28,7 @@ loop-next-smaller c =
 pub loop-next-preserved : goal.loop-next-preserved
 loop-next-preserved c =
     let inv = c.loop-next.invariant in
-    let price = named_price (measure_of c.args.run.now.floor) in
+    let price = named_price (measure_in c.args.run.now) in
     let s = state c.loop-next.run in
     let after = state c.step.new.self in
     let before = vec_items c.loop-next.out in
@@ -51,7 +50,7 @@ loop-next-preserved c =
 pub returns-in-None-clause-lines : goal.returns-in-None-clause-lines
 returns-in-None-clause-lines c = λ _.
     let inv = c.loop-next.invariant in
-    let price = named_price (measure_of c.args.run.now.floor) in
+    let price = named_price (measure_in c.args.run.now) in
     let s = state c.loop-next.run in
     let after = state c.step.new.self in
     let none = no_step price s c.loop-next.buffer after inv.4 (rw (c.in-None.is, inv.3) at c.in-Ok.ensures.answer) (rw inv.3 at c.step.ensures.after) in
