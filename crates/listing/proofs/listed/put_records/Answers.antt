@@ -12,7 +12,7 @@ pub loop-found-preserved : goal.loop-found-preserved
 loop-found-preserved c =
     let inv = c.loop-found.invariant in
     let told = rw c.in-Ok-Some.field-0-is at c.in-Ok-Some.ensures in
-    record_turn inv.0 _ _ (standing c.next_record.new.self) (content c.in-Ok-Some.found) _ _ _ inv.1 told.answer told.after told.advances c.index-index.ensures
+    record_turn inv.0 _ _ (standing c.next_record.new.self) (content c.in-Ok-Some.found) _ _ _ inv.1 told.answer told.after told.advances c.index-index.ensures.value
     (c.in_ok-put_record-in-Ok-Some.ensures refl) inv.2
 
 pub returns-in-Ok-None : goal.returns-in-Ok-None

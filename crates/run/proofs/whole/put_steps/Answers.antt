@@ -1,7 +1,6 @@
-use Rattle.std.proofs.Common.{◌≡◌, ℕ, ◌+◌, ◌-◌, ◌<◌, ◌≤◌, Bool, true, false, cond, suc, ◌++◌, length, take, vec_items, refl, sym, ap, subst, ◌∙◌, arith}
+use Rattle.std.proofs.Common.{◌≡◌, ℕ, ◌+◌, ◌-◌, ◌<◌, ◌≤◌, Bool, true, false, cond, suc, ◌++◌, length, vec_items, refl, sym, ap, subst, ◌∙◌, arith}
 use Rattle.measure.specs.Names.{named_price}
 use Rattle.run.specs.State.{State, measure_in, state}
-use Rattle.run.specs.Steps.{step_state, step_buffer}
 use Rattle.run.specs.Texts.{end_text, run_text}
 use Rattle.run.proofs.Turns.{left, turn_left, step_taken, no_step, next_turn, last_turn}
 use Rattle.run.proofs.whole.put_steps.Goals as goal
