@@ -191,10 +191,10 @@ pub record Moves (from to : Standing) : Type 0 where
 pub record_moves : (s : Standing) (c : Content) → Ok (Some c) ≡ next_answer s → Moves s (next_standing s)
 record_moves s c is = by_test (ltb s.place (length s.job)) is
   where
-  by_part : (part : Part Content) → ((v : Content) (next : ℕ) → taken v next ≡ part → Reaches s.job (s.place + 2) next) → Ok (Some c) ≡ part_answer s.index part → Moves s (part_standing s part)
-  by_part (Ok t) reach e = let r = reach t.value t.next refl in record { same = refl; forward = r.forth; within = r.within }
-  by_part (Err flaw) reach e = absurd (cc)
+    by_part : (part : Part Content) → ((v : Content) (next : ℕ) → taken v next ≡ part → Reaches s.job (s.place + 2) next) → Ok (Some c) ≡ part_answer s.index part → Moves s (part_standing s part)
+    by_part (Ok t) reach e = let r = reach t.value t.next refl in record { same = refl; forward = r.forth; within = r.within }
+    by_part (Err flaw) reach e = absurd (cc)
 
-  by_test : (b : Bool) → Ok (Some c) ≡ cond b (part_answer s.index (read_record s.job s.place)) (Ok None) → Moves s (cond b (part_standing s (read_record s.job s.place)) s)
-  by_test true e = by_part (read_record s.job s.place) (λ v next e. (passes s.job s.place v next e).0) e
-  by_test false e = absurd (cc)
+    by_test : (b : Bool) → Ok (Some c) ≡ cond b (part_answer s.index (read_record s.job s.place)) (Ok None) → Moves s (cond b (part_standing s (read_record s.job s.place)) s)
+    by_test true e = by_part (read_record s.job s.place) (λ v next e. (passes s.job s.place v next e).0) e
+    by_test false e = absurd (cc)

@@ -13,7 +13,12 @@ use std::io::{Read, Write};
 fn digit_of(byte: u8) -> u8
     ensures { result < 16 }
 {
-    char::from(byte).to_digit(16).unwrap_or(0) as u8
+    // Not `to_digit`, which takes lower case too, where this table has none.
+    match byte {
+        b'0'..=b'9' => byte - b'0',
+        b'A'..=b'F' => byte - b'A' + 10,
+        _ => 0,
+    }
 }
 
 // Adds the bytes of a word, two digits each.

@@ -29,7 +29,7 @@ pub(crate) const CELL_NAME: u32 = 5;
 // The only bit of a withdrawal's map.
 pub(crate) const WITHDRAWAL_NUMBER: u32 = 0;
 
-// What a record holds after its kind.
+// What a record holds after its kind. Not one with the kinds: a cell that is placed and one that is tried hold the same.
 #[derive(Clone, Copy)]
 pub(crate) enum Form {
     Row,
