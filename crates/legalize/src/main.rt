@@ -7,7 +7,8 @@ use std::io::{Read, Write};
 use std::process::ExitCode;
 
 // What a person is told who gives no job.
-const NO_JOB: &str = "legalize: standard input is empty. A job in the binary format is expected there, as in: legalize < tile.job";
+const NO_JOB: &str =
+    "legalize: standard input is empty. A job in the binary format is expected there, as in: legalize < tile.job";
 
 // Carries out a job and prints its lines.
 fn print_answer(rt: &HostRuntime, job: &[u8]) -> io::Result<()> {
