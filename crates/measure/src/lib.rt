@@ -2,7 +2,7 @@
 #![tactic(auto)]
 
 ghost use Rattle.std.specs.Prelude.{◌≡◌, ℕ};
-ghost use Rattle.measure.specs.Costs.{Fair, cost_of, rise_of, step_of};
+ghost use Rattle.measure.specs.Costs.{Fair, cost_of, in_range, rise_of, step_of};
 ghost use Rattle.measure.specs.Measures.{squared, plain};
 ghost use Rattle.measure.specs.Steps.{squared_fair, plain_fair};
 
@@ -14,6 +14,13 @@ pub use name::{MeasureName, UnknownMeasure};
 pub const LAST_PLACE: u32 = 65_535;
 
 pub const MOST_WEIGHT: u32 = 1_000;
+
+// Whether a wanted place, a weight and a place are within the ranges.
+fn is_in_range(wanted: u32, weight: u32, place: u32) -> bool
+    ensures { result ≡ in_range wanted weight place }
+{
+    wanted <= LAST_PLACE && (1..=MOST_WEIGHT).contains(&weight) && place <= LAST_PLACE
+}
 
 // A measure gives one whole number, the cost, for each wanted place, weight and place.
 pub trait Measure {
@@ -31,7 +38,7 @@ pub trait Measure {
     fn cost(&self, wanted: u32, weight: u32, place: u32) -> u64
         ensures { result ≡ cost_of (price self.now) wanted weight place }
     {
-        if wanted <= LAST_PLACE && 1 <= weight && weight <= MOST_WEIGHT && place <= LAST_PLACE {
+        if is_in_range(wanted, weight, place) {
             self.price_at(wanted as u16, weight as u16, place as u16)
         } else {
             0
@@ -42,7 +49,7 @@ pub trait Measure {
     fn rise(&self, wanted: u32, weight: u32, place: u32) -> i64
         ensures { result ≡ rise_of (price self.now) wanted weight place }
     {
-        if wanted <= LAST_PLACE && 1 <= weight && weight <= MOST_WEIGHT && place < LAST_PLACE {
+        if place < LAST_PLACE && is_in_range(wanted, weight, place + 1) {
             self.step_at(wanted as u16, weight as u16, place as u16)
         } else {
             0
@@ -70,6 +77,7 @@ impl Measure for Squared {
         let weight = u64::from(weight);
         let here = weight * u64::from(place);
         let home = weight * u64::from(wanted);
+        // Both are below 2^34, so that each is the same number as an i64.
         (2 * here + weight) as i64 - (2 * home) as i64
     }
 }

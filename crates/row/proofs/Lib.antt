@@ -1,4 +1,5 @@
 pub mod Accepted
+pub mod Costs
 pub mod Defaults
 pub mod Fewer
 pub mod Finished

@@ -1,9 +1,9 @@
 -- Parts of a list of cells, from one place up to another.
-use Rattle.std.proofs.Common.{◌≡◌, ℕ, zero, suc, ◌+◌, ◌-◌, ◌<◌, ◌≤◌, Bool, true, false, ◌&&◌, List, [], ◌∷◌, ◌++◌, length, get_or, take, drop, Some, None, Option, sym, refl, ap, ◌∙◌, eq-eqb, arith}
-use Rattle.std.proofs.lemmas.Bool.{le-leb}
+use Rattle.std.proofs.Common.{◌≡◌, ℕ, zero, suc, ◌+◌, ◌-◌, ◌<◌, ◌≤◌, Bool, true, List, [], ◌∷◌, ◌++◌, length, get_or, take, drop, Some, None, Option, sym, refl, ap, ◌∙◌, eq-eqb, take-add, arith}
+use Rattle.std.proofs.lemmas.Bool.{and_from, le-leb}
 use Rattle.std.proofs.lemmas.List.Edits.{between_none, between_more}
 use Rattle.std.proofs.ByRecursion.{All-take, All-drop}
-use Rattle.std.proofs.lemmas.List.{take-append-drop, take-take, drop-take, drop-drop, length-take, length-drop}
+use Rattle.std.proofs.lemmas.List.{take-append-drop, drop-drop, length-take, length-drop}
 use Rattle.std.specs.List.{between, AllByRecursion}
 use Rattle.std.specs.Option.{option_map}
 use Rattle.row.specs.Records.{check, then, cell_fault, before, widths}
@@ -17,24 +17,15 @@ use Rattle.row.proofs.Accepted.{both, Accepted, ready_known}
 use Rattle.row.proofs.Defaults.{no_cell}
 use Rattle.row.proofs.Ranges.{passed}
 
--- a front part of a list, cut once more
-take_cut : {X : Type 0} (xs : List X) (m n k : ℕ) → k ≡ m + n → take k xs ≡ take m xs ++ take n (drop m xs)
-take_cut xs m n k e =
-    let cut : take m (take (m + n) xs) ++ drop m (take (m + n) xs) ≡ take (m + n) xs = take-append-drop m (take (m + n) xs) in
-    let short : m ≤ m + n = omega arith in
-    let front : take m (take (m + n) xs) ≡ take m xs = take-take m (m + n) xs short in
-    let back : drop m (take (m + n) xs) ≡ take n (drop m xs) = drop-take m n xs in
-    ap (λ j. take j xs) e ∙ sym cut ∙ ap (λ l. l ++ drop m (take (m + n) xs)) front ∙ ap (λ l. take m xs ++ l) back
-
 -- two parts that follow one another
 pub between_join : {X : Type 0} (xs : List X) (a b c : ℕ) → a ≤ b → b ≤ c → between a b xs ++ between b c xs ≡ between a c xs
 between_join xs a b c low high =
     let there : drop (b - a) (drop a xs) ≡ drop b xs = drop-drop (b - a) a xs ∙ ap (λ n. drop n xs) (omega arith) in
-    sym (take_cut (drop a xs) (b - a) (c - b) (c - a) (omega arith) ∙ ap (λ l. between a b xs ++ take (c - b) l) there)
+    sym (ap (λ n. take n (drop a xs)) (omega arith) ∙ take-add (b - a) (c - b) (drop a xs) ∙ ap (λ l. between a b xs ++ take (c - b) l) there)
 
 -- a front part and the part that follows it
 pub take_join : {X : Type 0} (xs : List X) (b c : ℕ) → b ≤ c → take b xs ++ between b c xs ≡ take c xs
-take_join xs b c high = sym (take_cut xs b (c - b) c (omega arith))
+take_join xs b c high = sym (ap (λ n. take n xs) (omega arith) ∙ take-add b (c - b) xs)
 
 -- a part of one element
 pub between_one : {X : Type 0} (xs : List X) (i : ℕ) (d : X) → i < length xs → between i (i + 1) xs ≡ get_or xs i d ∷ []
@@ -85,10 +76,6 @@ neither some others a b = ap (λ o. then o others) a ∙ b
 let_pass : {E : Type 0} (test : Bool) (failure : E) (others : Option E) → test ≡ true → others ≡ None → check test failure others ≡ None
 let_pass test failure others test_true e = ap (λ b. check b failure others) test_true ∙ e
 
-and_true : (x y : Bool) → x ≡ true → y ≡ true → (x && y) ≡ true
-and_true true y a b = b
-and_true false y a b = a
-
 -- cells that come after another are not refused without it
 without : (last : Cell) (cs : List Cell) → cells_refusal (Some last) cs ≡ None → cells_refusal None cs ≡ None
 without last [] e = refl
@@ -116,7 +103,7 @@ part_ready row cells a b ready =
     let by_cell = both _ _ sizes.1 in
     let known = part_known (ready_known row cells ready) a b in
     neither _ _ row_first.0
-    (let_pass _ _ _ (and_true _ _ (le-leb _ _ known.few) (eq-eqb _ _ refl))
+    (let_pass _ _ _ (and_from _ _ (le-leb _ _ known.few) (eq-eqb _ _ refl))
     (neither _ _ (taken None (b - a) (drop a cells) (dropped a cells by_cell.0))
     (let_pass _ _ _ (le-leb _ _ (let room = known.room in omega arith)) refl)))
 

@@ -7,8 +7,10 @@ use Rattle.std.specs.List.{AllByRecursion}
 use Rattle.measure.specs.Costs.{Fair, InRange, step_of}
 use Rattle.row.specs.Records.{widths}
 use Rattle.row.specs.Sites.{cluster_rise, climbs}
-use Rattle.row.specs.Stack.{Passes}
+use Rattle.row.specs.Stack.{Passes, Ready}
 use Rattle.row.specs.declared.Cell.{Cell}
+use Rattle.row.specs.declared.Row.{Row}
+use Rattle.row.proofs.Accepted.{ready_known}
 use Rattle.row.proofs.Defaults.{no_cell}
 use Rattle.row.proofs.Ranges.{Ranged, ranged}
 
@@ -25,9 +27,13 @@ step_bounds {f} fair c p passes low =
 
 -- Facts of one turn of a loop over cells, at the cell with index i.
 module _ (cells : List Cell) (i : ℕ) (within : i < length cells) where
-  -- the cell's ranges
-  pub ranged_at : AllByRecursion Passes cells → Ranged (get_or cells i no_cell)
-  ranged_at passed = ranged (get_or cells i no_cell) (All-get_or Passes cells i no_cell within passed)
+  -- the cell's own checks let it pass, in a row that is not refused
+  passes_at : (row : Row) → Ready row cells → Passes (get_or cells i no_cell)
+  passes_at row ready = All-get_or Passes cells i no_cell within (ready_known row cells ready).pass
+
+  -- so it is within its ranges
+  pub ranged_at : (row : Row) → Ready row cells → Ranged (get_or cells i no_cell)
+  ranged_at row ready = ranged (get_or cells i no_cell) (passes_at row ready)
 
   -- the widths that are left, one cell on
   pub widths_more : widths (drop i cells) ≡ (get_or cells i no_cell).width + widths (drop (i + 1) cells)
@@ -37,12 +43,18 @@ module _ (cells : List Cell) (i : ℕ) (within : i < length cells) where
   pub rise_more : (f : ℕ → ℕ → ℕ → ℕ) (x : ℕ) → cluster_rise f (drop i cells) x ≡ step_of f (get_or cells i no_cell).wanted.site (get_or cells i no_cell).weight x +ℤ cluster_rise f (drop (i + 1) cells) (x + (get_or cells i no_cell).width)
   rise_more f x = at_drop_more (λ cs. cluster_rise f cs x) cells i no_cell within
 
-  -- the bounds of the cell's step at a site from which what is left fits the places
-  pub step_bounds_at : {f : ℕ → ℕ → ℕ → ℕ} → Fair f → AllByRecursion Passes cells → (x : ℕ) → x + widths (drop i cells) ≤ 65535 → (neg_ℤ (pos (2 ^ 42)) ≤ℤ step_of f (get_or cells i no_cell).wanted.site (get_or cells i no_cell).weight x) × (step_of f (get_or cells i no_cell).wanted.site (get_or cells i no_cell).weight x ≤ℤ pos (2 ^ 42))
-  step_bounds_at fair passed x inside =
-      let r = ranged_at passed in
+  -- few cells, and the bounds of the cell's step at a site from which what is left fits the places
+  pub record Stepped (f : ℕ → ℕ → ℕ → ℕ) (x : ℕ) : Type 0 where
+    pub few : length cells ≤ 1024
+    pub low : neg_ℤ (pos (2 ^ 42)) ≤ℤ step_of f (get_or cells i no_cell).wanted.site (get_or cells i no_cell).weight x
+    pub high : step_of f (get_or cells i no_cell).wanted.site (get_or cells i no_cell).weight x ≤ℤ pos (2 ^ 42)
+
+  pub stepped : {f : ℕ → ℕ → ℕ → ℕ} → Fair f → (row : Row) → Ready row cells → (x : ℕ) → x + widths (drop i cells) ≤ 65535 → Stepped f x
+  stepped fair row ready x inside =
+      let r = ranged_at row ready in
       let more = widths_more in
-      step_bounds fair (get_or cells i no_cell) x (All-get_or Passes cells i no_cell within passed) (omega arith)
+      let bounds = step_bounds fair (get_or cells i no_cell) x (passes_at row ready) (omega arith) in
+      record { few = (ready_known row cells ready).few; low = bounds.0; high = bounds.1 }
 
 -- the rise of abutting cells never falls as they go right
 pub rise_mono : {f : ℕ → ℕ → ℕ → ℕ} → Fair f → (cs : List Cell) (t u : ℕ) → AllByRecursion Passes cs → t ≤ u → u + widths cs ≤ 65535 → cluster_rise f cs t ≤ℤ cluster_rise f cs u

@@ -10,11 +10,11 @@ use Rattle.measure.specs.Costs.{Fair}
 use Rattle.row.specs.Clusters.{Cluster, at_best, push, settle}
 use Rattle.row.specs.Records.{widths}
 use Rattle.row.specs.Sites.{best_site, reach as reaches, row_clusters}
-use Rattle.row.specs.Stack.{Passes, part, cluster_of, stack_of, Spans, AtBest, Follows, Bracketed, Tiled, Holds}
+use Rattle.row.specs.Stack.{Passes, Ready, part, cluster_of, stack_of, Spans, AtBest, Follows, Bracketed, Tiled, Holds}
 use Rattle.row.specs.declared.Cell.{Cell}
 use Rattle.row.specs.declared.Row.{Row}
 use Rattle.row.specs.declared.cluster.Cluster.{Cluster as Run}
-use Rattle.row.proofs.Accepted.{Accepted}
+use Rattle.row.proofs.Accepted.{Accepted, ready_known}
 use Rattle.row.proofs.Defaults.{no_cell, no_run}
 use Rattle.row.proofs.Instance.{lane, tight, span_is, reach_is, best_is, bends, all_bend, clusters_are}
 use Rattle.row.proofs.Parts.{take_join, between_one, part_joined, part_known, widths-take}
@@ -152,14 +152,14 @@ module _ {f : ℕ → ℕ → ℕ → ℕ} {row : Row} {cells : List Cell} {n : 
     sound_top = subst (Sound R) stack_top p.sound
 
     -- the one before lies within the row
-    pub end_fits : b.site + b.width ≤ row.right
+    end_fits : b.site + b.width ≤ row.right
     end_fits =
         let to = sound_top.0.sure.to in
         let wide = span_is f row (part cells b) in
         let own = tiled_top.0.wide in
         omega arith
 
-    pub follows : Follows cells b last
+    follows : Follows cells b last
     follows = record {
       one = tiled_top.0;
       two = record { starts = p.spans.starts; ends = refl; wide = p.spans.wide };
@@ -189,7 +189,7 @@ module _ {f : ℕ → ℕ → ℕ → ℕ} {row : Row} {cells : List Cell} {n : 
       some_last : NonEmpty (part cells last)
       some_last = some_part cells past last within p.spans
 
-      pub bracketed : Bracketed f row cells b last
+      bracketed : Bracketed f row cells b last
       bracketed =
           let left = join_left R some_b some_last sound_top.0.sure p.sure touch best_joined (tight f row) in
           let right = join_right R some_b some_last sound_top.0.sure p.sure touch best_joined (tight f row) (omega arith) in
@@ -199,7 +199,7 @@ module _ {f : ℕ → ℕ → ℕ → ℕ} {row : Row} {cells : List Cell} {n : 
           record { not_after = omega arith; not_before = omega arith }
 
       -- the two as one are pushed on those before them
-      pub again : (r : Run) → AtBest f row cells b.first last.past r → Pushing f row cells past others r
+      again : (r : Run) → AtBest f row cells b.first last.past r → Pushing f row cells past others r
       again r best =
           let both : List Cell = part cells b ++ part cells last in
           let whole : cluster_of cells r ≡ at_best reaches (best_site f row) both = at_best_is b.first last.past r best ∙ ap (at_best reaches (best_site f row)) (sym joined_cells) in
@@ -246,3 +246,23 @@ module _ {f : ℕ → ℕ → ℕ → ℕ} {row : Row} {cells : List Cell} {n : 
         tiled = subst (Tiled cells past) (sym top) (p.spans, p.tiled);
         clusters = ap (map (cluster_of cells)) top ∙ sym rested ∙ p.comes;
       }
+
+-- what is known where the run on top of the others is b
+pub record Turn (f : ℕ → ℕ → ℕ → ℕ) (row : Row) (cells : List Cell) (past : ℕ) (runs : List Run) (b last : Run) : Type 0 where
+  pub ends : b.site + b.width ≤ 65535
+  pub follows : Follows cells b last
+  pub bracketed : last.site < b.site + b.width → Bracketed f row cells b last
+  pub again : last.site < b.site + b.width → (r : Run) → AtBest f row cells b.first last.past r → Pushing f row cells past (take (length runs - 1) runs) r
+
+pub turn : {f : ℕ → ℕ → ℕ → ℕ} {row : Row} {cells : List Cell} {past : ℕ} {runs : List Run} {b last : Run} → Fair f → Ready row cells → past ≤ length cells → Some b ≡ slice_get runs (length runs - 1) → Pushing f row cells past runs last → Turn f row cells past runs b last
+turn {f} {row} {cells} {past} {runs} {b} {last} fair ready within at p =
+    let a = ready_known row cells ready in
+    let top = top_of runs b at in
+    let ends = end_fits fair a within top p in
+    let right = a.ranged.right in
+    record {
+      ends = omega arith;
+      follows = follows fair a within top p;
+      bracketed = λ overlap. bracketed fair a within top p overlap;
+      again = λ overlap. again fair a within top p overlap;
+    }

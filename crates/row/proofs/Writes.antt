@@ -1,7 +1,7 @@
--- One turn of the loop that writes sites, and the end of the one that adds up costs.
-use Rattle.std.proofs.Common.{◌≡◌, ℕ, ◌+◌, ◌<◌, ◌≤◌, ◌⊎◌, List, [], ◌∷◌, ◌++◌, length, get_or, take, drop, set, sym, refl, ap, ◌∙◌, ⊎_elim, append_assoc, append-nil, arith}
+-- One turn of the loop that writes sites, and its end.
+use Rattle.std.proofs.Common.{◌≡◌, ℕ, ◌+◌, ◌<◌, ◌≤◌, List, [], ◌∷◌, ◌++◌, length, get_or, take, drop, set, sym, ap, ◌∙◌, append_assoc, append-nil, arith}
 use Rattle.std.proofs.lemmas.List.{at_drop_more, at_drop_all, take_more_set, take_all}
-use Rattle.row.specs.Sites.{abut, sites_cost}
+use Rattle.row.specs.Sites.{abut}
 use Rattle.row.specs.declared.Cell.{Cell}
 use Rattle.row.proofs.Defaults.{no_cell}
 
@@ -19,9 +19,3 @@ module _ (cells : List Cell) (sites : List ℕ) (i : ℕ) (each : length sites �
   abut_all x past =
       let over : length sites ≤ i = omega arith in
       sym (ap (λ l. take i sites ++ l) (at_drop_all (λ cs. abut cs x) cells i past) ∙ append-nil (take i sites) ∙ take_all i sites over)
-
--- cells or sites that are used up cost nothing
-pub none_left : (f : ℕ → ℕ → ℕ → ℕ) (cells : List Cell) (sites : List ℕ) → (length cells ≡ 0) ⊎ (length sites ≡ 0) → sites_cost f cells sites ≡ 0
-none_left f [] sites none = refl
-none_left f (c ∷ cs) [] none = refl
-none_left f (c ∷ cs) (y ∷ ys) none = absurd (⊎_elim (λ cells_end. omega arith) (λ sites_end. omega arith) none)

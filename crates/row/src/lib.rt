@@ -10,7 +10,7 @@ mod task;
 pub use setting::set;
 
 // How many cells a row is set with at most.
-pub(crate) const MOST_CELLS: usize = 1_024;
+pub const MOST_CELLS: usize = 1_024;
 
 // A site on a line.
 #[derive(Clone, Copy, PartialEq, Eq, Debug, Default)]

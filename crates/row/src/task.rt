@@ -76,13 +76,10 @@ impl<'a, M: Measure> Task<'a, M> {
         requires { AllByRecursion (λ x. x ≤ 65535) sites.now }
         ensures { result ≡ sites_cost (M.price self.now.measure.now) self.now.cells.now sites.now }
     {
-        let mut sum: u64 = 0;
-        // A loop: that the sum fits rests on what the checks say of these cells, which a closure that is summed over is not told.
-        for (cell, site) in self.cells.iter().zip(sites) {
-            sum += self
-                .measure
-                .price_at(cell.wanted.site as u16, cell.weight as u16, *site as u16);
-        }
-        sum
+        self.cells
+            .iter()
+            .zip(sites)
+            .map(|(cell, site)| self.measure.cost(cell.wanted.site, cell.weight, *site))
+            .sum()
     }
 }

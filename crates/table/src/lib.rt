@@ -5,6 +5,7 @@ ghost use Rattle.std.specs.Prelude.{◌≡◌, ◌≤◌, Bool, true, length};
 ghost use Rattle.table.specs.Order.{Ordered, rank_of};
 
 // A record that is ahead of another, or is not.
+// It is not `Ord`: a seat's rank is the order of some of its fields, and each type shows `chain` to the one search.
 pub trait Ranked {
     ghost ahead: { Self → Self → Bool };
 

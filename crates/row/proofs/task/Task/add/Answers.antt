@@ -3,7 +3,7 @@ use Rattle.std.specs.List.{slice_get}
 use Rattle.row.specs.declared.cluster.Cluster.{Cluster as Run}
 use Rattle.std.proofs.lemmas.Grind.{common_steps}
 use Rattle.row.proofs.Accepted.{ready_known}
-use Rattle.row.proofs.Stacked.{top_of, few_runs, start, end_fits, follows, bracketed, again, rests, finish}
+use Rattle.row.proofs.Stacked.{few_runs, start, turn, rests, finish}
 use Rattle.row.proofs.task.Task.add.Goals as goal
 
 pub loop-last-init : goal.loop-last-init
@@ -13,28 +13,18 @@ loop-last-init g c =
 
 pub end-requires : goal.end-requires
 end-requires g c =
-    let a = ready_known c.args.self.now.row c.args.self.now.cells.now c.args.self.now.ready in
-    let right = a.ranged.right in
-    let top = top_of c.loop-last.clusters.items c.in-Some.field-0.now (rw c.deref.ensures.0 at c.in-Some.ensures.value) in
-    let fits = end_fits (g.met.M.Measure.fair c.args.self.now.measure.now) a (omega arith) top c.loop-last.invariant in
-    omega arith
+    let known = turn (g.met.M.Measure.fair c.args.self.now.measure.now) c.args.self.now.ready (omega arith) (rw c.deref.ensures.0 at c.in-Some.ensures.value) c.loop-last.invariant in
+    omega (arith, known.ends)
 
 pub joined-last-requires : goal.joined-last-requires
 joined-last-requires g c =
-    let a = ready_known c.args.self.now.row c.args.self.now.cells.now c.args.self.now.ready in
-    let fair = g.met.M.Measure.fair c.args.self.now.measure.now in
-    let top = top_of c.loop-last.clusters.items c.in-Some.field-0.now (rw c.deref.ensures.0 at c.in-Some.ensures.value) in
-    record {
-      follows = follows fair a (omega arith) top c.loop-last.invariant;
-      bracketed = bracketed fair a (omega arith) top c.loop-last.invariant (omega arith);
-    }
+    let known = turn (g.met.M.Measure.fair c.args.self.now.measure.now) c.args.self.now.ready (omega arith) (rw c.deref.ensures.0 at c.in-Some.ensures.value) c.loop-last.invariant in
+    record { follows = known.follows; bracketed = known.bracketed (omega arith) }
 
 pub loop-last-preserved : goal.loop-last-preserved
 loop-last-preserved g c =
-    let a = ready_known c.args.self.now.row c.args.self.now.cells.now c.args.self.now.ready in
-    let fair = g.met.M.Measure.fair c.args.self.now.measure.now in
-    let top = top_of c.loop-last.clusters.items c.in-Some.field-0.now (rw c.deref.ensures.0 at c.in-Some.ensures.value) in
-    rw c.pop.ensures.rest (again fair a (omega arith) top c.loop-last.invariant (omega arith) c.joined-last.result c.joined-last.ensures)
+    let known = turn (g.met.M.Measure.fair c.args.self.now.measure.now) c.args.self.now.ready (omega arith) (rw c.deref.ensures.0 at c.in-Some.ensures.value) c.loop-last.invariant in
+    rw c.pop.ensures.rest (known.again (omega arith) c.joined-last.result c.joined-last.ensures)
 
 pub push-requires : goal.push-requires
 push-requires g c =

@@ -1,20 +1,26 @@
-use Rattle.std.proofs.Common.{◌≡◌, inl, inr, ap, ◌∙◌, ⊎_elim, arith}
-use Rattle.std.specs.Slice.Iter.{iter_rest}
-use Rattle.std.specs.Iterator.Adapters.{zip_first, zip_second}
-use Rattle.row.proofs.Accepted.{ready_known}
-use Rattle.row.proofs.Writes.{none_left}
+use Rattle.std.proofs.Common.{◌^◌, ◌∙◌, rules}
+use Rattle.std.specs.List.{zip}
+use Rattle.std.proofs.lemmas.Iterator.{YieldsList-from_slice, YieldsList-from_map, YieldsList-from_zip}
+use Rattle.std.proofs.lemmas.Iterator.Consumers.{sum_by_from_yields_List, fits_by_from_yields_list, YieldsList-at}
+use Rattle.row.proofs.Costs.{cost_at, costed}
 use Rattle.row.proofs.task.Task.cost_at.Goals as goal
 
-pub loop-cell-init : goal.loop-cell-init
-loop-cell-init g c =
-    let a = ready_known c.args.self.now.row c.args.self.now.cells.now c.args.self.now.ready in
-    let same = c.into_iter-cell-iterator.ensures.into_iter_gives in
-    let pairs = c.zip-cell-items.ensures in
-    let cells : iter_rest (zip_first c.into_iter-cell-iterator.result) ≡ c.args.self.now.cells.now = ap (λ z. iter_rest (zip_first z)) same ∙ ap iter_rest pairs.first ∙ c.iter.ensures.rest in
-    let sites : iter_rest (zip_second c.into_iter-cell-iterator.result) ≡ c.args.sites.now = ap (λ z. iter_rest (zip_second z)) same ∙ pairs.second.0 in
-    rw (cells, sites) ((tt, tt), tt, omega arith, omega (arith, a.few), a.pass, c.requires)
+pub sum-requires-clause-fits : goal.sum-requires-clause-fits
+sum-requires-clause-fits g c =
+    let cells = c.args.self.now.cells.now in
+    let sites = c.args.sites.now in
+    let cost = cost_at (g.M.Measure.price c.args.self.now.measure.now) in
+    let costs = costed (g.met.M.Measure.fair c.args.self.now.measure.now) c.args.self.now.row cells sites c.args.self.now.ready c.requires in
+    fits_by_from_yields_list cost (zip cells sites) c.map.result (2 ^ 64)
+    (YieldsList-from_map _ cost (YieldsList-at c.map.ensures.source (YieldsList-from_zip (YieldsList-from_slice cells cc) (YieldsList-from_slice sites cc))) c.map.ensures.closure (λ x r q k. search rules))
+    costs.fits
 
 pub returns : goal.returns
 returns g c =
-    let none = none_left (g.M.Measure.price c.args.self.now.measure.now) (iter_rest (zip_first c.loop-cell.cell-iterator)) (iter_rest (zip_second c.loop-cell.cell-iterator)) (⊎_elim (λ s. inl s.1.0) (λ s. inr s.1.0) c.in-None.ensures.steps) in
-    omega arith
+    let cells = c.args.self.now.cells.now in
+    let sites = c.args.sites.now in
+    let cost = cost_at (g.M.Measure.price c.args.self.now.measure.now) in
+    let costs = costed (g.met.M.Measure.fair c.args.self.now.measure.now) c.args.self.now.row cells sites c.args.self.now.ready c.requires in
+    sum_by_from_yields_List cost (zip cells sites) c.map.result c.sum.result c.sum.ensures.ran
+    (YieldsList-from_map _ cost (YieldsList-at c.map.ensures.source (YieldsList-from_zip (YieldsList-from_slice cells cc) (YieldsList-from_slice sites cc))) c.map.ensures.closure (λ x r q k. search rules))
+    ∙ costs.is

@@ -1,30 +1,23 @@
-use Rattle.std.proofs.Common.{◌+◌, ◌≤◌, drop, arith}
+use Rattle.std.proofs.Common.{arith}
 use Rattle.std.proofs.lemmas.List.{at_drop_all}
 use Rattle.std.proofs.lemmas.Int.{ints}
-use Rattle.row.specs.Records.{widths}
 use Rattle.row.specs.Sites.{cluster_rise}
-use Rattle.row.proofs.Accepted.{ready_known}
-use Rattle.row.proofs.Rises.{ranged_at, widths_more, rise_more, step_bounds_at}
+use Rattle.row.proofs.Rises.{ranged_at, widths_more, rise_more, stepped}
 use Rattle.row.proofs.task.Task.rise_from.Goals as goal
 
 pub overflow_cast-cell : goal.overflow_cast-cell
 overflow_cast-cell g c =
-    let a = ready_known c.args.self.now.row c.args.self.now.cells.now c.args.self.now.ready in
-    let r = ranged_at c.args.self.now.cells.now c.loop-cell.cell-index c.loop-cell-test.true a.pass in
+    let r = ranged_at c.args.self.now.cells.now c.loop-cell.cell-index c.loop-cell-test.true c.args.self.now.row c.args.self.now.ready in
     omega arith
 
 pub overflow_cast-cell-in-loop-cell : goal.overflow_cast-cell-in-loop-cell
 overflow_cast-cell-in-loop-cell g c =
-    let a = ready_known c.args.self.now.row c.args.self.now.cells.now c.args.self.now.ready in
-    let r = ranged_at c.args.self.now.cells.now c.loop-cell.cell-index c.loop-cell-test.true a.pass in
+    let r = ranged_at c.args.self.now.cells.now c.loop-cell.cell-index c.loop-cell-test.true c.args.self.now.row c.args.self.now.ready in
     omega arith
 
 pub overflow_add-sum : goal.overflow_add-sum
 overflow_add-sum g c =
-    let a = ready_known c.args.self.now.row c.args.self.now.cells.now c.args.self.now.ready in
-    let fair = g.met.M.Measure.fair c.args.self.now.measure.now in
-    let inside : c.loop-cell.site + widths (drop c.loop-cell.cell-index c.args.self.now.cells.now) ≤ 65535 = omega arith in
-    let bounds = step_bounds_at c.args.self.now.cells.now c.loop-cell.cell-index c.loop-cell-test.true fair a.pass c.loop-cell.site inside in
+    let step = stepped c.args.self.now.cells.now c.loop-cell.cell-index c.loop-cell-test.true (g.met.M.Measure.fair c.args.self.now.measure.now) c.args.self.now.row c.args.self.now.ready c.loop-cell.site (omega arith) in
     omega (arith, ints)
 
 pub overflow_add-site : goal.overflow_add-site
@@ -34,10 +27,7 @@ overflow_add-site g c =
 
 pub loop-cell-preserved : goal.loop-cell-preserved
 loop-cell-preserved g c =
-    let a = ready_known c.args.self.now.row c.args.self.now.cells.now c.args.self.now.ready in
-    let fair = g.met.M.Measure.fair c.args.self.now.measure.now in
-    let inside : c.loop-cell.site + widths (drop c.loop-cell.cell-index c.args.self.now.cells.now) ≤ 65535 = omega arith in
-    let bounds = step_bounds_at c.args.self.now.cells.now c.loop-cell.cell-index c.loop-cell-test.true fair a.pass c.loop-cell.site inside in
+    let step = stepped c.args.self.now.cells.now c.loop-cell.cell-index c.loop-cell-test.true (g.met.M.Measure.fair c.args.self.now.measure.now) c.args.self.now.row c.args.self.now.ready c.loop-cell.site (omega arith) in
     let more = widths_more c.args.self.now.cells.now c.loop-cell.cell-index c.loop-cell-test.true in
     let rest = rise_more c.args.self.now.cells.now c.loop-cell.cell-index c.loop-cell-test.true (g.M.Measure.price c.args.self.now.measure.now) c.loop-cell.site in
     (omega (arith, ints), omega arith, omega (arith, ints), omega (arith, ints))
