@@ -71,10 +71,10 @@ pub record Costed (f : ℕ → ℕ → ℕ → ℕ) (seats : List Seat) (i acros
   pub up_small : up ≤ 2 ^ 42
   pub more : floor_cost f (drop i seats) ≡ (across + up) + floor_cost f (drop (i + 1) seats)
 
-pub costed : {f : ℕ → ℕ → ℕ → ℕ} (fair : Fair f) (rows : List Row) (all seats : List Seat) (i : ℕ) {across up : ℕ} → formed rows all ≡ true → seats ≡ all → i < length seats →
+pub costed : {f : ℕ → ℕ → ℕ → ℕ} (fair : Fair f) (rows : List Row) {all seats : List Seat} {i across up : ℕ} → formed rows all ≡ true → seats ≡ all → i < length seats →
     across ≡ cost_of f (get_or seats i no_seat).cell.wanted.site (get_or seats i no_seat).cell.weight (get_or seats i no_seat).site →
     up ≡ cost_of f (get_or seats i no_seat).cell.wanted.line (get_or seats i no_seat).cell.weight (get_or seats i no_seat).row.line → Costed f seats i across up
-costed {f} fair rows all seats i {across} {up} well same within told_across told_up =
+costed {f} fair rows {all} {seats} {i} {across} {up} well same within told_across told_up =
     let s : Seat = get_or seats i no_seat in
     let own : SeatKnown s = All-get_or SeatKnown seats i no_seat within (known_slice rows all seats well same) in
     let r = ranged s.cell own.passes in

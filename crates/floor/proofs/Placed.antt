@@ -145,8 +145,8 @@ pub record Chose (f : ℕ → ℕ → ℕ → ℕ) (rows : List Row) (seats : Li
 choice_is : (f : ℕ → ℕ → ℕ → ℕ) (seats : List Seat) (cell : Cell) (choice : Choice) (row : Row) → Ok choice ≡ ok_or {E = Refusal} (Some (choice_of f seats cell row)) NoRoom → choice ≡ choice_of f seats cell row
 choice_is f seats cell choice row e = cc
 
-pub chose : {f : ℕ → ℕ → ℕ → ℕ} (fair : Fair f) (rows : List Row) (seats : List Seat) (cell : Cell) (choice : Choice) {given : Option Choice} → formed rows seats ≡ true → None ≡ cell_refusal seats cell → Ok choice ≡ ok_or given NoRoom → given ≡ option_map (choice_of f seats cell) (chosen f seats cell rows) → Chose f rows seats cell choice
-chose {f} fair rows seats cell choice {given} well free taken told = by_row (chosen f seats cell rows) refl (taken ∙ ap (λ o. ok_or o NoRoom) told)
+pub chose : {f : ℕ → ℕ → ℕ → ℕ} (fair : Fair f) (rows : List Row) (seats : List Seat) (cell : Cell) {choice : Choice} {given : Option Choice} → formed rows seats ≡ true → None ≡ cell_refusal seats cell → Ok choice ≡ ok_or given NoRoom → given ≡ option_map (choice_of f seats cell) (chosen f seats cell rows) → Chose f rows seats cell choice
+chose {f} fair rows seats cell {choice} {given} well free taken told = by_row (chosen f seats cell rows) refl (taken ∙ ap (λ o. ok_or o NoRoom) told)
   where
     by_row : (o : Option Row) → chosen f seats cell rows ≡ o → Ok choice ≡ ok_or (option_map (choice_of f seats cell) o) NoRoom → Chose f rows seats cell choice
     by_row None is e = let never : ◌≡◌ {A = ℕ} 0 1 = cc in absurd (omega arith)

@@ -7,13 +7,13 @@ use Rattle.floor.proofs.floor.Floor.cost.Goals as goal
 pub overflow_add-sum : goal.overflow_add-sum
 overflow_add-sum g c =
     let self = c.args.self.now in
-    let seat = costed (g.met.M.Measure.fair self.measure) self.rows.items self.seats.items.items c.as_slice-seats.result.now c.loop-seat.seat-index self.well c.as_slice-seats.ensures c.loop-seat-test.true c.cost-across.ensures c.cost-up.ensures in
+    let seat = costed (g.met.M.Measure.fair self.measure) self.rows.items self.well c.as_slice-seats.ensures c.loop-seat-test.true c.cost-across.ensures c.cost-up.ensures in
     omega arith
 
 pub overflow_add-sum-in-loop-seat : goal.overflow_add-sum-in-loop-seat
 overflow_add-sum-in-loop-seat g c =
     let self = c.args.self.now in
-    let seat = costed (g.met.M.Measure.fair self.measure) self.rows.items self.seats.items.items c.as_slice-seats.result.now c.loop-seat.seat-index self.well c.as_slice-seats.ensures c.loop-seat-test.true c.cost-across.ensures c.cost-up.ensures in
+    let seat = costed (g.met.M.Measure.fair self.measure) self.rows.items self.well c.as_slice-seats.ensures c.loop-seat-test.true c.cost-across.ensures c.cost-up.ensures in
     let few = self.seats.room.0 in
     let long = ap length c.as_slice-seats.ensures in
     let counted = self.seats.items.ok.0 in
@@ -22,7 +22,7 @@ overflow_add-sum-in-loop-seat g c =
 pub loop-seat-preserved : goal.loop-seat-preserved
 loop-seat-preserved g c =
     let self = c.args.self.now in
-    let seat = costed (g.met.M.Measure.fair self.measure) self.rows.items self.seats.items.items c.as_slice-seats.result.now c.loop-seat.seat-index self.well c.as_slice-seats.ensures c.loop-seat-test.true c.cost-across.ensures c.cost-up.ensures in
+    let seat = costed (g.met.M.Measure.fair self.measure) self.rows.items self.well c.as_slice-seats.ensures c.loop-seat-test.true c.cost-across.ensures c.cost-up.ensures in
     (omega arith, omega arith)
 
 pub returns : goal.returns
