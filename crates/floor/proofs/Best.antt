@@ -2,6 +2,7 @@
 use Rattle.std.proofs.Common.{◌≡◌, ℕ, suc, ◌<◌, ◌≤◌, Bool, true, false, cond, leb, List, [], ◌∷◌, Some, None, Ok, Err, Option, Result, refl, subst, ⊎_elim, arith}
 use Rattle.std.proofs.ByRecursion.{All-weaker}
 use Rattle.std.proofs.lemmas.Bool.{leb-true, leb-false, both_ways, or_cases}
+use Rattle.std.proofs.lemmas.Option.{same_Some}
 use Rattle.std.specs.List.{ContainsAt as Has, AllByRecursion}
 use Rattle.row.specs.Records.{row_ahead}
 use Rattle.row.specs.declared.Cell.{Cell}
@@ -35,9 +36,6 @@ module _ (f : ℕ → ℕ → ℕ → ℕ) (seats : List Seat) (cell : Cell) whe
   pub record Best (row : Row) (rows : List Row) : Type 0 where
     pub least : NoneLess row rows
     pub first : FirstOf row rows
-
-  same_some : (a b : Row) → Some a ≡ Some b → a ≡ b
-  same_some a b e = cc
 
   -- something is chosen of a row that has sites and what is chosen of others
   not_none : (r : Row) (o : Option Row) → better rises r o ≡ None → ⊥
@@ -78,15 +76,15 @@ module _ (f : ℕ → ℕ → ℕ → ℕ) (seats : List Seat) (cell : Cell) whe
   of_two : (r other row : Row) (rows : List Row) (t : Bool) → AllByRecursion (λ y. row_ahead r y ≡ true) rows → Best other rows → leb (rises r) (rises other) ≡ t → cond t (Some r) (Some other) ≡ Some row → Best row (r ∷ rows)
   of_two r other row rows true after best test h =
       let up = leb-true (rises r) (rises other) test in
-      subst (λ x. Best x (r ∷ rows)) (same_some r row h)
+      subst (λ x. Best x (r ∷ rows)) (same_Some r row h)
       (first_best r rows after (All-weaker (λ y. has_sites seats cell y ≡ true → rises other ≤ rises y) (λ y. has_sites seats cell y ≡ true → rises r ≤ rises y) (λ y h fits. let more = h fits in omega arith) rows best.least))
   of_two r other row rows false after best test h =
       let down = leb-false (rises r) (rises other) test in
-      subst (λ x. Best x (r ∷ rows)) (same_some other row h) (later_best r other rows (λ _. omega arith) best)
+      subst (λ x. Best x (r ∷ rows)) (same_Some other row h) (later_best r other rows (λ _. omega arith) best)
 
   of_better : (r row : Row) (rows : List Row) (o : Option Row) → AllByRecursion (λ y. row_ahead r y ≡ true) rows → chosen f seats cell rows ≡ o → ((x : Row) → chosen f seats cell rows ≡ Some x → Best x rows) → better rises r o ≡ Some row → Best row (r ∷ rows)
   of_better r row rows None after is rest h =
-      subst (λ x. Best x (r ∷ rows)) (same_some r row h)
+      subst (λ x. Best x (r ∷ rows)) (same_Some r row h)
       (first_best r rows after (All-weaker (λ y. has_sites seats cell y ≡ false) (λ y. has_sites seats cell y ≡ true → rises r ≤ rises y) (λ y no yes. absurd (both_ways (has_sites seats cell y) no yes)) rows (none_fits rows is)))
   of_better r row rows (Some other) after is rest h = of_two r other row rows (leb (rises r) (rises other)) after (rest other is) refl h
 

@@ -1,13 +1,16 @@
 -- What one seat costs, under a fair measure.
-use Rattle.std.proofs.Common.{◌≡◌, ℕ, ◌+◌, ◌^◌, ◌<◌, ◌≤◌, true, ◌&&◌, leb, List, length, get_or, drop, ◌∙◌, arith}
+use Rattle.std.proofs.Common.{◌≡◌, ℕ, ◌+◌, ◌*◌, ◌^◌, ◌<◌, ◌≤◌, Bool, true, false, cond, ◌&&◌, leb, List, [], ◌∷◌, length, get_or, map, drop, refl, ◌∙◌, arith}
 use Rattle.std.proofs.ByRecursion.{All-get_or}
 use Rattle.std.proofs.lemmas.List.{at_drop_more}
-use Rattle.std.proofs.lemmas.Bool.{and_from, le-leb, cond-true}
+use Rattle.std.proofs.lemmas.Bool.{and_parts, and_from, le-leb, leb-true, cond-true}
+use Rattle.std.proofs.lemmas.List.Sums.{sum_by-cons}
+use Rattle.std.specs.List.{AllByRecursion, sum_by}
 use Rattle.measure.specs.Costs.{Fair, InRange, in_range, cost_of}
 use Rattle.row.proofs.Ranges.{ranged}
+use Rattle.row.specs.Sites.{sites_cost}
 use Rattle.row.specs.declared.Row.{Row}
 use Rattle.floor.specs.Formed.{formed}
-use Rattle.floor.specs.Seats.{floor_cost}
+use Rattle.floor.specs.Seats.{Sited, cell_of, site_of, floor_cost}
 use Rattle.floor.specs.declared.Seat.{Seat}
 use Rattle.floor.proofs.Defaults.{no_seat}
 use Rattle.floor.proofs.Known.{SeatKnown, known_slice}
@@ -23,16 +26,55 @@ in_range_true w e p h =
 pub cost_within : (f : ℕ → ℕ → ℕ → ℕ) (w e p : ℕ) → InRange w e p → cost_of f w e p ≡ f w e p
 cost_within f w e p h = cond-true (in_range w e p) (f w e p) 0 (in_range_true w e p h)
 
+-- and they hold where the test says so
+range_within : (w e p : ℕ) → in_range w e p ≡ true → InRange w e p
+range_within w e p h =
+    let a = and_parts (leb w 65535) (leb 1 e && (leb e 1000 && leb p 65535)) h in
+    let b = and_parts (leb 1 e) (leb e 1000 && leb p 65535) a.1 in
+    let c = and_parts (leb e 1000) (leb p 65535) b.1 in
+    (leb-true w 65535 a.0, leb-true 1 e b.0, leb-true e 1000 c.0, leb-true p 65535 c.1)
+
+-- it is never above 2^42, within the ranges or not
+pub cost_small : {f : ℕ → ℕ → ℕ → ℕ} → Fair f → (w e p : ℕ) → cost_of f w e p ≤ 2 ^ 42
+cost_small {f} fair w e p = by_test (in_range w e p) refl
+  where
+    by_test : (t : Bool) → in_range w e p ≡ t → cond t (f w e p) 0 ≤ 2 ^ 42
+    by_test true is = fair.bounded w e p (range_within w e p is)
+    by_test false is = omega arith
+
+-- what the site of a seat costs, as a measure answers it
+abbrev pub across_of : (ℕ → ℕ → ℕ → ℕ) → Seat → ℕ
+across_of f s = cost_of f s.cell.wanted.site s.cell.weight s.site
+
+pub across_bound : {f : ℕ → ℕ → ℕ → ℕ} → Fair f → (seats : List Seat) → sum_by (across_of f) seats ≤ 2 ^ 42 * length seats
+across_bound fair [] = omega arith
+across_bound {f} fair (s ∷ seats) =
+    let one = cost_small fair s.cell.wanted.site s.cell.weight s.site in
+    let rest = across_bound fair seats in
+    let more = sum_by-cons (across_of f) s seats in
+    omega arith
+
+-- the sites of seats at places, added up
+pub across_sum : (f : ℕ → ℕ → ℕ → ℕ) (seats : List Seat) → AllByRecursion Sited seats → sum_by (across_of f) seats ≡ sites_cost f (map cell_of seats) (map site_of seats)
+across_sum f [] sited = refl
+across_sum f (s ∷ seats) sited =
+    let own = ranged s.cell sited.0.0 in
+    let place = sited.0.1 in
+    let one = cost_within f s.cell.wanted.site s.cell.weight s.site (omega arith) in
+    let rest = across_sum f seats sited.1 in
+    let more = sum_by-cons (across_of f) s seats in
+    omega arith
+
 -- what one seat of a floor adds to its cost, as a measure answers it
 pub record Costed (f : ℕ → ℕ → ℕ → ℕ) (seats : List Seat) (i across up : ℕ) : Type 0 where
   pub across_small : across ≤ 2 ^ 42
   pub up_small : up ≤ 2 ^ 42
   pub more : floor_cost f (drop i seats) ≡ (across + up) + floor_cost f (drop (i + 1) seats)
 
-pub costed : {f : ℕ → ℕ → ℕ → ℕ} (fair : Fair f) (rows : List Row) (all seats : List Seat) (i : ℕ) {across up : ℕ} → formed rows all ≡ true → seats ≡ all → i < length seats →
+pub costed : {f : ℕ → ℕ → ℕ → ℕ} (fair : Fair f) (rows : List Row) {all seats : List Seat} {i across up : ℕ} → formed rows all ≡ true → seats ≡ all → i < length seats →
     across ≡ cost_of f (get_or seats i no_seat).cell.wanted.site (get_or seats i no_seat).cell.weight (get_or seats i no_seat).site →
     up ≡ cost_of f (get_or seats i no_seat).cell.wanted.line (get_or seats i no_seat).cell.weight (get_or seats i no_seat).row.line → Costed f seats i across up
-costed {f} fair rows all seats i {across} {up} well same within told_across told_up =
+costed {f} fair rows {all} {seats} {i} {across} {up} well same within told_across told_up =
     let s : Seat = get_or seats i no_seat in
     let own : SeatKnown s = All-get_or SeatKnown seats i no_seat within (known_slice rows all seats well same) in
     let r = ranged s.cell own.passes in

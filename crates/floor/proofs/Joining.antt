@@ -68,7 +68,7 @@ placeable seats cell none =
     }
 
 -- no seat has the number of a cell that can be placed
-fresh_each : (seats : List Seat) (cell : Cell) → stands cell.number seats ≡ false → AllByRecursion (λ s. eqb s.cell.number cell.number ≡ false) seats
+pub fresh_each : (seats : List Seat) (cell : Cell) → stands cell.number seats ≡ false → AllByRecursion (λ s. eqb s.cell.number cell.number ≡ false) seats
 fresh_each seats cell fresh = none_any (λ s. eqb s.cell.number cell.number) seats (ap not fresh)
 
 -- the widths of two lots of seats

@@ -1,6 +1,9 @@
 -- What is known once a row is chosen for a cell.
 use Rattle.std.proofs.Common.{◌≡◌, ℕ, Bool, true, false, cond, not, ◌||◌, eqb, leb, ltb, List, [], ◌∷◌, map, length, Some, None, Ok, Option, IsSome, sym, refl, ap, ◌∙◌, subst, arith}
 use Rattle.std.proofs.lemmas.Bool.{or_left, or_right, cond_both, cond-true, cond-false, eq-eqb, both_ways}
+use Rattle.std.proofs.ByRecursion.{All-weaker}
+use Rattle.std.proofs.lemmas.Option.{same_Some}
+use Rattle.std.specs.List.{AllByRecursion}
 use Rattle.std.specs.Option.{option_map, unwrap_or, ok_or}
 use Rattle.measure.specs.Costs.{Fair}
 use Rattle.row.specs.Records.{check, then, cell_fault}
@@ -9,8 +12,9 @@ use Rattle.row.specs.Stack.{Ready}
 use Rattle.row.specs.Task.{changed}
 use Rattle.row.specs.declared.Cell.{Cell}
 use Rattle.row.specs.declared.Row.{Row}
-use Rattle.table.proofs.Inserted.{put_in, inserted_is}
-use Rattle.floor.specs.Calls.{better, chosen, rise, seated, seat_of, site_then, refused_or, placed_on, place_answer, seated_on, seats_after_place}
+use Rattle.row.specs.declared.Spot.{Spot}
+use Rattle.table.proofs.Inserted.{put_in, put_all, inserted_is}
+use Rattle.floor.specs.Calls.{better, chosen, rise, seated, seat_of, spot, site_then, refused_or, placed_on, place_answer, seated_on, seats_after_place}
 use Rattle.floor.specs.Choices.{choice_of}
 use Rattle.floor.specs.Formed.{formed}
 use Rattle.floor.specs.Refusals.{any, has_sites, stands, cell_refusal, place_refusal}
@@ -19,10 +23,10 @@ use Rattle.floor.specs.declared.Refusal.{Refusal}
 use Rattle.floor.specs.declared.Refusal.TheVariants.{OutOfRange, NumberStands, CellsFull, NoRoom}
 use Rattle.floor.specs.declared.Seat.{Seat}
 use Rattle.floor.specs.declared.choice.Choice.{Choice}
-use Rattle.floor.proofs.Joining.{placeable, seated_formed}
+use Rattle.floor.proofs.Joining.{placeable, fresh_each, seated_formed}
 use Rattle.floor.proofs.Listed.{is_row, Standing}
 use Rattle.floor.proofs.Ready.{ready_standing}
-use Rattle.floor.proofs.Resited.{resited_cells}
+use Rattle.floor.proofs.Resited.{resited_all, resited_cells}
 
 -- what is chosen is a standing row that has sites
 pub record Good (rows : List Row) (seats : List Seat) (cell : Cell) (row : Row) : Type 0 where
@@ -35,16 +39,13 @@ is_row_self row = grind arith
 later : (first : Row) (rows : List Row) (seats : List Seat) (cell : Cell) (row : Row) → Good rows seats cell row → Good (first ∷ rows) seats cell row
 later first rows seats cell row g = record { stands = or_right (is_row row first) (any (is_row row) rows) g.stands; fits = g.fits }
 
-same_some : (a b : Row) → Some a ≡ Some b → a ≡ b
-same_some a b e = cc
-
 better_good : (f : ℕ → ℕ → ℕ → ℕ) (first : Row) (rows : List Row) (seats : List Seat) (cell : Cell) (row : Row) (o : Option Row) → has_sites seats cell first ≡ true → ((r : Row) → o ≡ Some r → Good rows seats cell r) → better (rise f seats cell) first o ≡ Some row → Good (first ∷ rows) seats cell row
 better_good f first rows seats cell row None fits rest e =
-    subst (Good (first ∷ rows) seats cell) (same_some first row e) (record { stands = or_left (is_row first first) (any (is_row first) rows) (is_row_self first); fits = fits })
+    subst (Good (first ∷ rows) seats cell) (same_Some first row e) (record { stands = or_left (is_row first first) (any (is_row first) rows) (is_row_self first); fits = fits })
 better_good f first rows seats cell row (Some other) fits rest e = by_test (leb (rise f seats cell first) (rise f seats cell other)) e
   where
     by_test : (t : Bool) → cond t (Some first) (Some other) ≡ Some row → Good (first ∷ rows) seats cell row
-    by_test true h = subst (Good (first ∷ rows) seats cell) (same_some first row h) (record { stands = or_left (is_row first first) (any (is_row first) rows) (is_row_self first); fits = fits })
+    by_test true h = subst (Good (first ∷ rows) seats cell) (same_Some first row h) (record { stands = or_left (is_row first first) (any (is_row first) rows) (is_row_self first); fits = fits })
     by_test false h = later first rows seats cell row (rest row h)
 
 by_sites : (f : ℕ → ℕ → ℕ → ℕ) (first : Row) (rows : List Row) (seats : List Seat) (cell : Cell) (row : Row) (t : Bool) → has_sites seats cell first ≡ t → ((r : Row) → chosen f seats cell rows ≡ Some r → Good rows seats cell r) → cond t (better (rise f seats cell) first (chosen f seats cell rows)) (chosen f seats cell rows) ≡ Some row → Good (first ∷ rows) seats cell row
@@ -113,10 +114,30 @@ seated_found f seats cell row =
     stands_found cell.number (resited row sites all)
     (any_cells test (resited row sites all) ∙ ap (any test) (resited_cells row sites all) ∙ sym (any_cells test all) ∙ own)
 
+-- what holds of the seats of a number holds of the one that is found
+found_has : (P : Seat → Type 0) (number : ℕ) (seats : List Seat) (s : Seat) → AllByRecursion (λ t. eqb t.cell.number number ≡ true → P t) seats → seat_of number seats ≡ Some s → P s
+found_has P number [] s all e = let never : ◌≡◌ {A = ℕ} 0 1 = cc in absurd (omega arith)
+found_has P number (t ∷ seats) s all e = by_test (eqb t.cell.number number) refl (found_has P number seats s all.1) e
+  where
+    by_test : (b : Bool) → eqb t.cell.number number ≡ b → (seat_of number seats ≡ Some s → P s) → cond b (Some t) (seat_of number seats) ≡ Some s → P s
+    by_test true is rest h = subst P (same_Some t s h) (all.0 is)
+    by_test false is rest h = rest h
+
+-- the seat that is found by the number of a new cell is on the row that took it
+seated_row : (f : ℕ → ℕ → ℕ → ℕ) (seats : List Seat) (cell : Cell) (row : Row) (s : Seat) → stands cell.number seats ≡ false → seat_of cell.number (seated f seats cell row) ≡ Some s → s.row ≡ row
+seated_row f seats cell row s fresh found =
+    let k : Seat = new_seat row cell in
+    let all : List Seat = joined row cell seats in
+    let P : Seat → Type 0 = λ t. eqb t.cell.number cell.number ≡ true → t.row ≡ row in
+    let old : AllByRecursion P seats = All-weaker (λ t. eqb t.cell.number cell.number ≡ false) P (λ t no yes. absurd (both_ways (eqb t.cell.number cell.number) no yes)) seats (fresh_each seats cell fresh) in
+    let each : AllByRecursion P all = subst (AllByRecursion P) (sym (inserted_is seat_ahead k seats)) (put_all seat_ahead k P seats (λ _. refl) old) in
+    found_has (λ t. t.row ≡ row) cell.number (seated f seats cell row) s (resited_all row P (λ t x h. h) (row_sites f row (cells_on row all)) all each) found
+
 -- what is known once a row is chosen for a cell that no other check refuses
 pub record Chose (f : ℕ → ℕ → ℕ → ℕ) (rows : List Row) (seats : List Seat) (cell : Cell) (choice : Choice) : Type 0 where
   pub is : chosen f seats cell rows ≡ Some choice.row
   pub rises : choice.rise ≡ rise f seats cell choice.row
+  pub fresh : stands cell.number seats ≡ false
   pub granted : place_refusal rows seats cell ≡ None
   pub ready : Ready choice.row (cells_on choice.row (joined choice.row cell seats))
   pub well : formed rows (seated f seats cell choice.row) ≡ true
@@ -124,8 +145,8 @@ pub record Chose (f : ℕ → ℕ → ℕ → ℕ) (rows : List Row) (seats : Li
 choice_is : (f : ℕ → ℕ → ℕ → ℕ) (seats : List Seat) (cell : Cell) (choice : Choice) (row : Row) → Ok choice ≡ ok_or {E = Refusal} (Some (choice_of f seats cell row)) NoRoom → choice ≡ choice_of f seats cell row
 choice_is f seats cell choice row e = cc
 
-pub chose : {f : ℕ → ℕ → ℕ → ℕ} (fair : Fair f) (rows : List Row) (seats : List Seat) (cell : Cell) (choice : Choice) → formed rows seats ≡ true → cell_refusal seats cell ≡ None → Ok choice ≡ ok_or (option_map (choice_of f seats cell) (chosen f seats cell rows)) NoRoom → Chose f rows seats cell choice
-chose {f} fair rows seats cell choice well none told = by_row (chosen f seats cell rows) refl told
+pub chose : {f : ℕ → ℕ → ℕ → ℕ} (fair : Fair f) (rows : List Row) (seats : List Seat) (cell : Cell) {choice : Choice} {given : Option Choice} → formed rows seats ≡ true → None ≡ cell_refusal seats cell → Ok choice ≡ ok_or given NoRoom → given ≡ option_map (choice_of f seats cell) (chosen f seats cell rows) → Chose f rows seats cell choice
+chose {f} fair rows seats cell {choice} {given} well free taken told = by_row (chosen f seats cell rows) refl (taken ∙ ap (λ o. ok_or o NoRoom) told)
   where
     by_row : (o : Option Row) → chosen f seats cell rows ≡ o → Ok choice ≡ ok_or (option_map (choice_of f seats cell) o) NoRoom → Chose f rows seats cell choice
     by_row None is e = let never : ◌≡◌ {A = ℕ} 0 1 = cc in absurd (omega arith)
@@ -134,22 +155,26 @@ chose {f} fair rows seats cell choice well none told = by_row (chosen f seats ce
         let row_is : choice.row ≡ row = ap (λ c. c.row) same in
         let chosen_is : chosen f seats cell rows ≡ Some choice.row = is ∙ ap Some (sym row_is) in
         let good = chosen_good f rows seats cell choice.row chosen_is in
+        let none = sym free in
         let can = placeable seats cell none in
         record {
           is = chosen_is;
           rises = ap (λ c. c.rise) same ∙ ap (rise f seats cell) (sym row_is);
+          fresh = can.fresh;
           granted = not_refused rows seats cell none (chosen_any f rows seats cell choice.row chosen_is);
           ready = ready_standing rows seats well cell can choice.row good.stands good.fits;
           well = seated_formed f fair rows seats cell choice.row well can good.stands good.fits;
         }
 
 -- what placing answers then, and the seats
-pub answers : {f : ℕ → ℕ → ℕ → ℕ} (rows : List Row) (seats after : List Seat) (cell : Cell) (choice : Choice) (seat : Seat) → Chose f rows seats cell choice → after ≡ seated f seats cell choice.row → seat_of cell.number after ≡ Some seat →
-    Ok (record { spot = record { line = choice.row.line; site = seat.site }; rise = choice.rise }) ≡ place_answer f rows seats cell
-answers {f} rows seats after cell choice seat known same found =
+pub answers : {f : ℕ → ℕ → ℕ → ℕ} (rows : List Row) (seats after : List Seat) (cell : Cell) (choice : Choice) (seat : Seat) {at : Spot} → Chose f rows seats cell choice → after ≡ seated f seats cell choice.row → seat_of cell.number after ≡ Some seat → at ≡ spot seat →
+    Ok (record { spot = at; rise = choice.rise }) ≡ place_answer f rows seats cell
+answers {f} rows seats after cell choice seat known same found is =
     let site : seat.site ≡ site_then cell.number (seated f seats cell choice.row) =
     sym (ap (λ o. unwrap_or (option_map site_of o) 0) found) ∙ ap (λ l. unwrap_or (option_map site_of (seat_of cell.number l)) 0) same in
-    (λ i. Ok (record { spot = record { line = choice.row.line; site = site i }; rise = known.rises i }))
+    let own : seat.row ≡ choice.row = seated_row f seats cell choice.row seat known.fresh (sym (ap (seat_of cell.number) same) ∙ found) in
+    (λ i. Ok (record { spot = is i; rise = known.rises i }))
+    ∙ (λ i. Ok (record { spot = record { line = (own i).line; site = site i }; rise = rise f seats cell choice.row }))
     ∙ sym (ap (λ o. refused_or o (placed_on f seats cell (chosen f seats cell rows))) known.granted ∙ ap (placed_on f seats cell) known.is)
 
 pub seats_then : {f : ℕ → ℕ → ℕ → ℕ} (rows : List Row) (seats : List Seat) (cell : Cell) (choice : Choice) → Chose f rows seats cell choice → seated f seats cell choice.row ≡ seats_after_place f rows seats cell

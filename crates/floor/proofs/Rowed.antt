@@ -1,14 +1,14 @@
 -- What every floor keeps, once a row is added.
-use Rattle.std.proofs.Common.{◌≡◌, ◌<◌, true, false, not, ◌&&◌, ltb, List, [], ◌∷◌, length, is_some, None, ap, ◌∙◌, arith}
+use Rattle.std.proofs.Common.{◌≡◌, ◌<◌, true, false, not, ◌&&◌, ltb, List, [], ◌∷◌, ℕ, length, is_some, None, ap, ◌∙◌, subst, sym, arith}
 use Rattle.std.proofs.ByRecursion.{All-weaker}
 use Rattle.std.proofs.lemmas.Bool.{and_parts, and_from, not-true, ltb-true}
 use Rattle.std.specs.Option.{option_map}
-use Rattle.std.specs.List.{AllByRecursion}
+use Rattle.std.specs.List.{AllByRecursion, insert}
 use Rattle.row.specs.Records.{check, row_fault, row_ahead}
 use Rattle.row.specs.declared.Row.{Row}
 use Rattle.row.proofs.Accepted.{both, unmapped}
 use Rattle.row.proofs.Ranges.{passed, RangedRow, ranged_row}
-use Rattle.table.specs.Order.{Ordered}
+use Rattle.table.specs.Order.{Ordered, rank_of}
 use Rattle.table.proofs.Inserted.{put_in, put_all, put_ordered, put_pairs, inserted_is}
 use Rattle.floor.specs.Calls.{with_row}
 use Rattle.floor.specs.Formed.{every, every_pair, rows_formed, is_row_of, seat_formed, seats_apart, formed}
@@ -103,3 +103,9 @@ ordered_rows rows seats e =
     let parts = and_parts (every (λ r. not (is_some (row_fault r))) rows) (every_pair row_ahead rows && every_pair (λ a b. not (share a b)) rows) all.0 in
     let pairs = and_parts (every_pair row_ahead rows) (every_pair (λ a b. not (share a b)) rows) parts.1 in
     pairs_ordered row_ahead rows (pairs_all row_ahead rows pairs.0)
+
+-- a row that is inserted where a search over them says
+pub row_placed : (rows : List Row) (seats : List Seat) (looked : List Row) (row : Row) (at : ℕ) {after : List Row} → formed rows seats ≡ true → looked ≡ rows → (Ordered row_ahead looked → at ≡ rank_of row_ahead looked row) → after ≡ insert rows at row → after ≡ with_row rows row
+row_placed rows seats looked row at well same finds put =
+    let found : at ≡ rank_of row_ahead rows row = finds (subst (Ordered row_ahead) (sym same) (ordered_rows rows seats well)) ∙ ap (λ l. rank_of row_ahead l row) same in
+    put ∙ ap (λ n. insert rows n row) found

@@ -8,6 +8,7 @@ use Rattle.std.specs.Option.{option_map}
 use Rattle.std.specs.List.{between, AllByRecursion}
 use borrow.Rule.Slice.PartMut.{put_mid}
 use Rattle.measure.specs.Costs.{Fair}
+use Rattle.std.specs.declared.ops.Range.{Range}
 use Rattle.row.specs.Records.{check, then, cell_fault, row_fault, before, row_ahead, widths}
 use Rattle.row.specs.Refusals.{comes_after, next_refusal, cells_refusal}
 use Rattle.row.specs.Settings.{placed, EveryPair, Within, Setting}
@@ -28,7 +29,6 @@ use Rattle.floor.specs.Rows.{same_row}
 use Rattle.floor.specs.Seats.{on_row, seat_ahead, seats_on, cells_on, cell_of, moved_all, settled, Sited as OfTable}
 use Rattle.floor.specs.Spans.{Spanned}
 use Rattle.floor.specs.declared.Seat.{Seat}
-use Rattle.floor.specs.declared.seats.stretch.Stretch.{Stretch}
 use Rattle.floor.proofs.Granted.{sites_each}
 use Rattle.floor.proofs.Kept.{pairs_with, pairs_both, pairs_kept}
 use Rattle.floor.proofs.Listed.{Standing, standing_passes, Listed, Sited}
@@ -148,7 +148,7 @@ pub record Set (price : ℕ → ℕ → ℕ → ℕ) (row : Row) (seats new : Li
   pub ordered : Ordered seat_ahead new
   pub sited : AllByRecursion OfTable new
 
-pub set_row : {f : ℕ → ℕ → ℕ → ℕ} (fair : Fair f) (row : Row) (seats : List Seat) {looked slice moved : List Seat} {none gathered cells : List Cell} {sites : List ℕ} (r : Stretch) {n : ℕ} → Ready row (cells_on row seats) → Ordered seat_ahead seats → AllByRecursion OfTable seats → Spanned row seats r →
+pub set_row : {f : ℕ → ℕ → ℕ → ℕ} (fair : Fair f) (row : Row) (seats : List Seat) {looked slice moved : List Seat} {none gathered cells : List Cell} {sites : List ℕ} (r : Range ℕ) {n : ℕ} → Ready row (cells_on row seats) → Ordered seat_ahead seats → AllByRecursion OfTable seats → Spanned row seats r →
     none ≡ [] → looked ≡ seats → gathered ≡ none ++ map cell_of (between r.start r.end looked) → cells ≡ gathered → sites ≡ row_sites f row cells → slice ≡ seats → moved ≡ moved_all sites (between r.start r.end slice) → n ≡ length seats →
     Set f row seats (take n (put_mid r.start (r.end - r.start) slice moved ++ drop (length (put_mid r.start (r.end - r.start) slice moved)) seats))
 set_row {f} fair row seats {looked} {slice} {moved} {none} {gathered} {cells} {sites} r {n} ready ordered sited own empty look gather same set slices move long =

@@ -8,6 +8,7 @@ use Rattle.std.proofs.lemmas.Bool.{cond_both, cond-true, cond-false, both_ways, 
 use Rattle.std.proofs.lemmas.List.Sums.{length-filter, count_by-le-length}
 use Rattle.std.proofs.lemmas.Slice.{between_is}
 use Rattle.std.specs.List.{between, AllByRecursion}
+use Rattle.std.specs.declared.ops.Range.{Range}
 use Rattle.row.proofs.Ranges.{ranged}
 use Rattle.row.specs.declared.Cell.{Cell}
 use Rattle.row.specs.declared.Row.{Row}
@@ -17,7 +18,6 @@ use Rattle.table.proofs.Sides.{rank_within, rank_front, rank_back, rank_mono}
 use Rattle.floor.specs.Seats.{on_row, seat_ahead, seats_on, cells_on, cell_of, Sited, row_key, start_of, end_of, new_seat, joined}
 use Rattle.floor.specs.Spans.{Spanned}
 use Rattle.floor.specs.declared.Seat.{Seat}
-use Rattle.floor.specs.declared.seats.stretch.Stretch.{Stretch}
 use Rattle.floor.proofs.Defaults.{no_seat}
 use Rattle.floor.proofs.Kept.{kept_yes, kept_no, kept_all, kept_none, all_with}
 use Rattle.floor.proofs.Orders.{seat_chain}
@@ -85,7 +85,7 @@ pub wanted_places : (seats : List Seat) → AllByRecursion Sited seats → AllBy
 wanted_places seats sited = All-weaker Sited (λ s. s.cell.wanted.site ≤ 65535) (λ s h. (ranged s.cell h.0).site) seats sited
 
 -- a stretch that begins and ends where a search says
-pub spanned : (row : Row) (seats : List Seat) (r : Stretch) → Ordered seat_ahead seats → AllByRecursion Sited seats → r.start ≡ start_of row seats → r.end ≡ end_of row seats → Spanned row seats r
+pub spanned : (row : Row) (seats : List Seat) (r : Range ℕ) → Ordered seat_ahead seats → AllByRecursion Sited seats → r.start ≡ start_of row seats → r.end ≡ end_of row seats → Spanned row seats r
 spanned row seats r ordered sited start end =
     let places = wanted_places seats sited in
     let first = start_end row seats ordered places in

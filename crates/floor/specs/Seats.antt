@@ -7,12 +7,14 @@
 --   start_of, end_of the stretch of a row's seats in an ordered table
 --   row_cost         the cost of the sites of a row
 --   joined           the seats with one more, for a cell on a row, in its place
+--   CanTake          that a row can be set with a cell more
 --   settled          the seats once a row is set: only the sites of its own seats are rewritten
 --   floor_cost       the cost of all seats: of their sites and of their lines
 use Rattle.std.specs.Prelude.{◌≡◌, ℕ, ◌+◌, ◌≤◌, Bool, cond, ◌&&◌, ◌||◌, List, [], ◌∷◌, map, None, filter}
 use Rattle.std.specs.List.{insert}
 use Rattle.row.specs.Records.{before, row_ahead, cell_fault}
 use Rattle.row.specs.Sites.{row_sites, sites_cost}
+use Rattle.row.specs.Stack.{Ready}
 use Rattle.row.specs.declared.Cell.{Cell}
 use Rattle.row.specs.declared.Row.{Row}
 use Rattle.table.specs.Order.{rank_of}
@@ -82,6 +84,10 @@ new_seat row cell = record { cell = cell; row = row; site = 0 }
 -- the seats with one more, in its place
 abbrev pub joined : Row → Cell → List Seat → List Seat
 joined row cell seats = insert seats (rank_of seat_ahead seats (new_seat row cell)) (new_seat row cell)
+
+-- that `set` refuses neither the row nor its cells with one more
+abbrev pub CanTake : Row → Cell → List Seat → Type 0
+CanTake row cell seats = Ready row (cells_on row (joined row cell seats))
 
 -- the seats with the sites of a row's own rewritten, one after another
 abbrev pub resited : Row → List ℕ → List Seat → List Seat

@@ -7,8 +7,11 @@ use crate::Seat;
 use arrayvec::ArrayVec;
 use row::Cell;
 
-// At most 1,024 cells, on the stack: trying a cell takes no heap.
-pub(crate) type RowCells = ArrayVec<Cell, 1_024>;
+// The most cells that a floor has, and so a row of it.
+pub(crate) const MOST_CELLS: usize = 1_024;
+
+// The cells of a row, on the stack: trying a cell takes no heap.
+pub(crate) type RowCells = ArrayVec<Cell, MOST_CELLS>;
 
 // Adds the cells of some seats.
 pub(crate) fn push_cells(cells: &mut RowCells, seats: &[Seat])

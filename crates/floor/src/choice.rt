@@ -2,14 +2,13 @@
 ghost use Rattle.std.specs.Prelude.{◌≡◌, ◌≤◌, true, not, is_some};
 ghost use Rattle.std.specs.Option.{option_map};
 ghost use Rattle.row.specs.Sites.{row_sites, sites_cost};
-ghost use Rattle.row.specs.Stack.{Ready};
 ghost use Rattle.floor.specs.Calls.{rise, chosen};
 ghost use Rattle.floor.specs.Choices.{choice_of, choice_on};
 ghost use Rattle.floor.specs.Formed.{formed};
 ghost use Rattle.floor.specs.Refusals.{cell_refusal, has_sites};
-ghost use Rattle.floor.specs.Seats.{cells_on, joined};
+ghost use Rattle.floor.specs.Seats.{CanTake, cells_on, joined};
 
-use crate::cells::RowCells;
+use crate::cells::MOST_CELLS;
 use crate::seats::{Seats, set_ready};
 use measure::Measure;
 use row::{Cell, Row};
@@ -33,21 +32,21 @@ pub(crate) struct Choice {
 impl<M: Measure> Offer<'_, M> {
     // What the sites of a row cost once it is set with the cell.
     fn cost_on(&self, row: Row) -> u64
-        requires { Ready row (cells_on row (joined row self.now.cell self.now.seats.now.items.items)) }
+        requires { CanTake row self.now.cell self.now.seats.now.items.items }
         ensures { let cells = cells_on row (joined row self.now.cell self.now.seats.now.items.items)
             in result ≡ sites_cost (M.price self.now.measure.now) cells (row_sites (M.price self.now.measure.now) row cells) }
     {
-        let mut cells = RowCells::new();
-        self.seats.gather_with(row, self.cell, &mut cells);
+        let cells = self.seats.gather_with(row, self.cell);
         let cells = cells.as_slice();
-        let mut sites = [0; 1_024];
+        // No heap here: sites on the stack, lent to `set`. What `Seats::settle` shares is `set_ready`: it keeps the sites and this the cost, so that a function for both would hand out both, by copy.
+        let mut sites = [0; MOST_CELLS];
         let sites = &mut sites[0..cells.len()];
         set_ready(self.measure, row, cells, sites)
     }
 
     // The rise of a row: what its sites cost more once it is set with the cell, and what its line costs.
     fn rise_on(&self, row: Row) -> u64
-        requires { Ready row (cells_on row (joined row self.now.cell self.now.seats.now.items.items)) }
+        requires { CanTake row self.now.cell self.now.seats.now.items.items }
         ensures { result ≡ rise (M.price self.now.measure.now) self.now.seats.now.items.items self.now.cell row }
     {
         let after = self.cost_on(row);
@@ -61,7 +60,7 @@ impl<M: Measure> Offer<'_, M> {
     fn choice_on(&self, row: &Row) -> Option<Choice>
         requires some { row.now.left ≤ row.now.right }
         requires ready { has_sites self.now.seats.now.items.items self.now.cell row.now ≡ true
-            → Ready row.now (cells_on row.now (joined row.now self.now.cell self.now.seats.now.items.items)) }
+            → CanTake row.now self.now.cell self.now.seats.now.items.items }
         ensures { result ≡ choice_on (M.price self.now.measure.now) self.now.seats.now.items.items self.now.cell row.now }
     {
         if !self.seats.has_sites(row, &self.cell) {

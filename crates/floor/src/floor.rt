@@ -9,12 +9,15 @@ mod looks;
 mod place;
 mod rows;
 
+// The most rows that a floor has.
+const MOST_ROWS: usize = 64;
+
 // Rows and the cells that stand on them. It is legal and in wanted order at all times.
 #[derive(Drop)]
 pub struct Floor<M> {
     measure: M,
     rows: Vec<Row>,
     seats: Seats,
-    ghost room: { (vec_len rows ≤ 64) × (64 ≤ vec_capacity rows) × (vec_len seats.items ≤ 1024) × (1024 ≤ vec_capacity seats.items) },
+    ghost room: { (vec_len rows ≤ 64) × (64 ≤ vec_capacity rows) },
     ghost well: { formed rows.items seats.items.items ≡ true },
 }

@@ -16,10 +16,7 @@ impl<M: Measure> Floor<M> {
     {
         self.seats
             .find(number)
-            .map(|seat| Spot {
-                line: seat.row.line,
-                site: seat.site,
-            })
+            .map(|seat| seat.spot())
             .ok_or(Refusal::NotStanding)
     }
 

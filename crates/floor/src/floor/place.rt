@@ -8,11 +8,12 @@ ghost use Rattle.floor.specs.Refusals.{cell_refusal};
 ghost use Rattle.floor.specs.Settled.{Settled, Least, CostsMore};
 ghost use Rattle.floor.specs.State.{rows_of, seats_of};
 
+use crate::cells::MOST_CELLS;
 use crate::choice::{Choice, Offer};
 use crate::floor::Floor;
 use crate::{Placing, Refusal};
 use measure::Measure;
-use row::{Cell, Spot};
+use row::Cell;
 
 impl<M: Measure> Floor<M> {
     // Refuses a cell that no row can take, by the first check that fails.
@@ -23,7 +24,7 @@ impl<M: Measure> Floor<M> {
         if self.seats.has_number(cell.number) {
             return Err(Refusal::NumberStands);
         }
-        if self.seats.len() >= 1_024 {
+        if self.seats.len() >= MOST_CELLS {
             return Err(Refusal::CellsFull);
         }
         Ok(())
@@ -60,12 +61,8 @@ impl<M: Measure> Floor<M> {
         let choice = self.choose(cell).ok_or(Refusal::NoRoom)?;
         self.seats.seat(&self.measure, choice.row, cell);
         let seat = self.seats.find(cell.number).unwrap();
-        let spot = Spot {
-            line: choice.row.line,
-            site: seat.site,
-        };
         Ok(Placing {
-            spot,
+            spot: seat.spot(),
             rise: choice.rise,
         })
     }

@@ -8,7 +8,7 @@ ghost use Rattle.floor.specs.Settled.{Settled};
 ghost use Rattle.floor.specs.State.{rows_of, seats_of};
 
 use crate::Refusal;
-use crate::floor::Floor;
+use crate::floor::{Floor, MOST_ROWS};
 use crate::seats::Seats;
 use row::Row;
 use std::alloc::{AllocError, Global};
@@ -33,7 +33,7 @@ impl<M: Drop> Floor<M> {
     pub fn new(heap: Global, measure: M) -> Result<Floor<M>, AllocError>
         ensures { IfOk result (λ f. (f.measure ≡ measure) × (rows_of f ≡ []) × (seats_of f ≡ [])) }
     {
-        let rows = Vec::with_capacity(heap, 64)?;
+        let rows = Vec::with_capacity(heap, MOST_ROWS)?;
         let seats = Seats::new(heap)?;
         Ok(Floor {
             measure,
@@ -42,12 +42,12 @@ impl<M: Drop> Floor<M> {
         })
     }
 
-    // Refuses a row that is outside its ranges, that comes when 64 stand, or that shares a site with one that stands.
+    // Refuses a row that is outside its ranges, that comes when `MOST_ROWS` stand, or that shares a site with one that stands.
     fn check_row(&self, row: &Row) -> Result<(), Refusal>
         ensures { checked result ≡ add_refusal (rows_of self.now) row.now }
     {
         row.check()?;
-        if self.rows.len() >= 64 {
+        if self.rows.len() >= MOST_ROWS {
             return Err(Refusal::RowsFull);
         }
         if shares_any(row, self.rows.as_slice()) {

@@ -1,13 +1,14 @@
 // Making the table of seats, and looking a number up in it.
 ghost use Rattle.std.specs.Prelude.{◌≡◌, [], length, IfOk};
-ghost use Rattle.floor.specs.Calls.{seat_of};
+ghost use Rattle.floor.specs.Calls.{seat_of, spot};
 ghost use Rattle.floor.specs.Refusals.{stands};
 ghost use Rattle.floor.specs.Seats.{new_seat, seat_ahead};
 ghost use Rattle.table.specs.Order.{rank_of};
 
 use crate::Seat;
+use crate::cells::MOST_CELLS;
 use crate::seats::Seats;
-use row::{Cell, Row};
+use row::{Cell, Row, Spot};
 use std::alloc::{AllocError, Global};
 use table::place_of;
 
@@ -17,6 +18,16 @@ impl Seat {
         ensures { result ≡ new_seat row cell }
     {
         Seat { cell, row, site: 0 }
+    }
+
+    // Where a seat is.
+    pub(crate) fn spot(&self) -> Spot
+        ensures { result ≡ spot self.now }
+    {
+        Spot {
+            line: self.row.line,
+            site: self.site,
+        }
     }
 
     // What a seat is ranked by: its row's line and left, then its cell's wanted site and number.
@@ -33,7 +44,7 @@ impl Seats {
     pub(crate) fn new(heap: Global) -> Result<Seats, AllocError>
         ensures { IfOk result (λ seats. seats.items.items ≡ []) }
     {
-        let items = Vec::with_capacity(heap, 1_024)?;
+        let items = Vec::with_capacity(heap, MOST_CELLS)?;
         Ok(Seats { items })
     }
 

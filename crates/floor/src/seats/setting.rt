@@ -1,14 +1,14 @@
 // Setting a row: its cells are gathered, and its seats moved to their sites.
-ghost use Rattle.std.specs.Prelude.{◌≡◌, ◌<◌, [], false, length, None};
+ghost use Rattle.std.specs.Prelude.{◌≡◌, ◌<◌, false, length, None};
 ghost use Rattle.row.specs.Records.{cell_fault};
 ghost use Rattle.row.specs.Sites.{row_sites, sites_cost};
 ghost use Rattle.row.specs.Stack.{Ready};
 ghost use Rattle.floor.specs.Calls.{seated};
 ghost use Rattle.floor.specs.Refusals.{stands};
-ghost use Rattle.floor.specs.Seats.{moved_all, cells_on, joined, settled};
+ghost use Rattle.floor.specs.Seats.{CanTake, moved_all, cells_on, joined, settled};
 
 use crate::Seat;
-use crate::cells::{RowCells, push_cells};
+use crate::cells::{MOST_CELLS, RowCells, push_cells};
 use crate::seats::Seats;
 use measure::Measure;
 use row::{Cell, Row, set};
@@ -36,18 +36,19 @@ fn move_to(seats: &mut [Seat], sites: &[u32])
 }
 
 impl Seats {
-    // Adds the cells of a row with one cell more, in wanted order.
-    pub(crate) fn gather_with(&self, row: Row, cell: Cell, cells: &mut RowCells)
-        requires few { length self.now.items.items < 1024 }
-        requires empty { cells.old.items ≡ [] }
-        ensures { cells.new.items ≡ cells_on row (joined row cell self.now.items.items) }
+    // The cells of a row with one cell more, in wanted order.
+    pub(crate) fn gather_with(&self, row: Row, cell: Cell) -> RowCells
+        requires { length self.now.items.items < 1024 }
+        ensures { result.items ≡ cells_on row (joined row cell self.now.items.items) }
     {
         let seats = self.on(row);
         let at = place_of(seats, &Seat::new(row, cell));
         let (before, behind) = seats.split_at(at);
-        push_cells(cells, before);
+        let mut cells = RowCells::new();
+        push_cells(&mut cells, before);
         cells.push(cell);
-        push_cells(cells, behind);
+        push_cells(&mut cells, behind);
+        cells
     }
 
     // Sets a row: only the sites of its own seats are rewritten.
@@ -59,7 +60,8 @@ impl Seats {
         let mut cells = RowCells::new();
         push_cells(&mut cells, &self.items[stretch.start..stretch.end]);
         let cells = cells.as_slice();
-        let mut sites = [0; 1_024];
+        // No heap here: the sites that `set` fills are lent to it, on the stack.
+        let mut sites = [0; MOST_CELLS];
         let sites = &mut sites[0..cells.len()];
         let _ = set_ready(measure, row, cells, sites);
         move_to(&mut self.items[stretch.start..stretch.end], sites);
@@ -70,7 +72,7 @@ impl Seats {
         requires passes { cell_fault cell ≡ None }
         requires fresh { stands cell.number self.old.items.items ≡ false }
         requires few { length self.old.items.items < 1024 }
-        requires ready { Ready row (cells_on row (joined row cell self.old.items.items)) }
+        requires ready { CanTake row cell self.old.items.items }
         ensures { self.new.items.items ≡ seated (M.price measure.now) self.old.items.items cell row }
     {
         let seat = Seat::new(row, cell);

@@ -11,15 +11,9 @@ use crate::Seat;
 use crate::seats::Seats;
 use measure::Measure;
 use row::{Cell, Row, Spot};
+use std::ops::Range;
 
-// The seats of one row in the table: from `start` to `end` - 1.
-#[derive(Clone, Copy)]
-pub(crate) struct Stretch {
-    pub(crate) start: usize,
-    pub(crate) end: usize,
-}
-
-// A key for the seats of a row: a seat that is wanted at this site.
+// A key for the seats of a row: a seat that is wanted at this site. It is a whole seat, since the one search `place_of` compares records of one type.
 fn key(row: Row, site: u32) -> Seat
     ensures { result ≡ row_key row site }
 {
@@ -34,14 +28,11 @@ fn key(row: Row, site: u32) -> Seat
 }
 
 impl Seats {
-    // The stretch of a row's seats.
-    pub(crate) fn stretch_of(&self, row: Row) -> Stretch
+    // The stretch of a row's seats in the table.
+    pub(crate) fn stretch_of(&self, row: Row) -> Range<usize>
         ensures { Spanned row self.now.items.items result }
     {
-        Stretch {
-            start: self.place(&key(row, 0)),
-            end: self.place(&key(row, 65_536)),
-        }
+        self.place(&key(row, 0))..self.place(&key(row, 65_536))
     }
 
     // The seats of a row, in wanted order.
@@ -62,16 +53,10 @@ impl Seats {
         ensures bound { result ≤ 2 ^ 52 }
     {
         let seats = self.on(row);
-        let mut sum: u64 = 0;
-        // A loop: that the sum fits rests on what the checks say of these seats, which a closure that is summed over is not told.
-        for seat in seats {
-            sum += measure.price_at(
-                seat.cell.wanted.site as u16,
-                seat.cell.weight as u16,
-                seat.site as u16,
-            );
-        }
-        sum
+        seats
+            .iter()
+            .map(|seat| measure.cost(seat.cell.wanted.site, seat.cell.weight, seat.site))
+            .sum()
     }
 
     // How many sites the cells of a row cover.

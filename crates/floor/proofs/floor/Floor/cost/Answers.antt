@@ -7,14 +7,14 @@ use Rattle.floor.proofs.floor.Floor.cost.Goals as goal
 pub overflow_add-sum : goal.overflow_add-sum
 overflow_add-sum g c =
     let self = c.args.self.now in
-    let seat = costed (g.met.M.Measure.fair self.measure) self.rows.items self.seats.items.items c.as_slice-seats.result.now c.loop-seat.seat-index self.well c.as_slice-seats.ensures c.loop-seat-test.true c.cost-across.ensures c.cost-up.ensures in
+    let seat = costed (g.met.M.Measure.fair self.measure) self.rows.items self.well c.as_slice-seats.ensures c.loop-seat-test.true c.cost-across.ensures c.cost-up.ensures in
     omega arith
 
 pub overflow_add-sum-in-loop-seat : goal.overflow_add-sum-in-loop-seat
 overflow_add-sum-in-loop-seat g c =
     let self = c.args.self.now in
-    let seat = costed (g.met.M.Measure.fair self.measure) self.rows.items self.seats.items.items c.as_slice-seats.result.now c.loop-seat.seat-index self.well c.as_slice-seats.ensures c.loop-seat-test.true c.cost-across.ensures c.cost-up.ensures in
-    let few = self.room.2 in
+    let seat = costed (g.met.M.Measure.fair self.measure) self.rows.items self.well c.as_slice-seats.ensures c.loop-seat-test.true c.cost-across.ensures c.cost-up.ensures in
+    let few = self.seats.room.0 in
     let long = ap length c.as_slice-seats.ensures in
     let counted = self.seats.items.ok.0 in
     omega arith
@@ -22,7 +22,7 @@ overflow_add-sum-in-loop-seat g c =
 pub loop-seat-preserved : goal.loop-seat-preserved
 loop-seat-preserved g c =
     let self = c.args.self.now in
-    let seat = costed (g.met.M.Measure.fair self.measure) self.rows.items self.seats.items.items c.as_slice-seats.result.now c.loop-seat.seat-index self.well c.as_slice-seats.ensures c.loop-seat-test.true c.cost-across.ensures c.cost-up.ensures in
+    let seat = costed (g.met.M.Measure.fair self.measure) self.rows.items self.well c.as_slice-seats.ensures c.loop-seat-test.true c.cost-across.ensures c.cost-up.ensures in
     (omega arith, omega arith)
 
 pub returns : goal.returns
@@ -32,7 +32,7 @@ returns g c =
     let f = g.M.Measure.price self.measure in
     let none : floor_cost f (drop c.loop-seat.seat-index seats) ≡ 0 = at_drop_all (floor_cost f) seats c.loop-seat.seat-index c.loop-seat-test.false in
     let same : floor_cost f seats ≡ floor_cost f self.seats.items.items = ap (floor_cost f) c.as_slice-seats.ensures in
-    let few = self.room.2 in
+    let few = self.seats.room.0 in
     let long = ap length c.as_slice-seats.ensures in
     let counted = self.seats.items.ok.0 in
     record { value = omega arith; bound = omega arith }

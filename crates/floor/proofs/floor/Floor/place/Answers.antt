@@ -1,10 +1,8 @@
 use Rattle.std.proofs.Common.{IsSome, ap, ◌∙◌, sym, subst}
-use Rattle.std.specs.Option.{ok_or}
 use Rattle.floor.specs.Calls.{seat_of}
 use Rattle.floor.specs.Formed.{formed}
 use Rattle.floor.specs.Seats.{floor_cost}
 use Rattle.floor.specs.Settled.{Settled}
-use Rattle.floor.specs.declared.Refusal.TheVariants.{NoRoom}
 use Rattle.floor.proofs.Best.{place_least}
 use Rattle.floor.proofs.Dearer.{place_dearer}
 use Rattle.floor.proofs.Keeping.{place_settled}
@@ -14,14 +12,13 @@ use Rattle.floor.proofs.floor.Floor.place.Goals as goal
 pub seat-requires-clause-ready : goal.seat-requires-clause-ready
 seat-requires-clause-ready g c =
     let self = c.args.self.now in
-    (chose (g.met.M.Measure.fair self.measure) self.rows.items self.seats.items.items c.args.cell c.in_ok-choice.choice self.well (sym c.in_ok-check_cell.ensures) (c.in_ok-choice.ensures.value ∙ ap (λ o. ok_or o NoRoom) c.choose.ensures)).ready
+    (chose (g.met.M.Measure.fair self.measure) self.rows.items self.seats.items.items c.args.cell self.well c.in_ok-check_cell.ensures c.in_ok-choice.ensures.value c.choose.ensures).ready
 
 pub invariant_of-self : goal.invariant_of-self
 invariant_of-self g c =
     let self = c.args.self.now in
-    let known = chose (g.met.M.Measure.fair self.measure) self.rows.items self.seats.items.items c.args.cell c.in_ok-choice.choice self.well (sym c.in_ok-check_cell.ensures) (c.in_ok-choice.ensures.value ∙ ap (λ o. ok_or o NoRoom) c.choose.ensures) in
-    let room = c.seat.new.self.room in
-    record { room = (self.room.0, self.room.1, room.0, room.1); well = ap (formed self.rows.items) c.seat.ensures ∙ known.well }
+    let known = chose (g.met.M.Measure.fair self.measure) self.rows.items self.seats.items.items c.args.cell self.well c.in_ok-check_cell.ensures c.in_ok-choice.ensures.value c.choose.ensures in
+    record { room = self.room; well = ap (formed self.rows.items) c.seat.ensures ∙ known.well }
 
 pub unwrap-seat-requires : goal.unwrap-seat-requires
 unwrap-seat-requires g c =
@@ -31,13 +28,13 @@ unwrap-seat-requires g c =
 pub returns-clause-answer : goal.returns-clause-answer
 returns-clause-answer g c =
     let self = c.args.self.now in
-    let known = chose (g.met.M.Measure.fair self.measure) self.rows.items self.seats.items.items c.args.cell c.in_ok-choice.choice self.well (sym c.in_ok-check_cell.ensures) (c.in_ok-choice.ensures.value ∙ ap (λ o. ok_or o NoRoom) c.choose.ensures) in
-    answers self.rows.items self.seats.items.items c.seat.new.self.items.items c.args.cell c.in_ok-choice.choice c.unwrap-seat.result known c.seat.ensures (sym c.find.ensures ∙ c.unwrap-seat.ensures)
+    let known = chose (g.met.M.Measure.fair self.measure) self.rows.items self.seats.items.items c.args.cell self.well c.in_ok-check_cell.ensures c.in_ok-choice.ensures.value c.choose.ensures in
+    answers self.rows.items self.seats.items.items c.seat.new.self.items.items c.args.cell c.in_ok-choice.choice c.unwrap-seat.result known c.seat.ensures (sym c.find.ensures ∙ c.unwrap-seat.ensures) c.spot.ensures
 
 pub returns-clause-seats : goal.returns-clause-seats
 returns-clause-seats g c =
     let self = c.args.self.now in
-    let known = chose (g.met.M.Measure.fair self.measure) self.rows.items self.seats.items.items c.args.cell c.in_ok-choice.choice self.well (sym c.in_ok-check_cell.ensures) (c.in_ok-choice.ensures.value ∙ ap (λ o. ok_or o NoRoom) c.choose.ensures) in
+    let known = chose (g.met.M.Measure.fair self.measure) self.rows.items self.seats.items.items c.args.cell self.well c.in_ok-check_cell.ensures c.in_ok-choice.ensures.value c.choose.ensures in
     c.seat.ensures ∙ seats_then self.rows.items self.seats.items.items c.args.cell c.in_ok-choice.choice known
 
 pub returns-clause-least : goal.returns-clause-least

@@ -10,7 +10,7 @@ returns c =
     let parts = c.split_at.result in
     let before = map cell_of parts.0.now in
     let behind = map cell_of parts.1.now in
-    let front = c.push_cells.ensures.cells ∙ ap (λ l. l ++ before) c.requires.empty in
+    let front = c.push_cells.ensures.cells ∙ ap (λ l. l ++ before) c.new-cells.ensures in
     let middle = c.push.ensures.items ∙ ap (λ l. l ++ cell ∷ []) front in
     c.push_cells-2.ensures.cells ∙ ap (λ l. l ++ behind) middle ∙ append_assoc before (cell ∷ []) behind
     ∙ joined_at c.args.row cell self.items.items c.on-seats.result.now c.new.result c.place_of-at.result parts.0.now parts.1.now
