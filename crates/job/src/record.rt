@@ -9,7 +9,7 @@ use row::{Cell, Row};
 use std::error::Error;
 use std::fmt;
 
-// One record of a job.
+// One record of a job. A cell and its name stay two fields, as users of this public type match them: what takes both takes them apart at once.
 #[derive(Clone, Copy)]
 pub enum Record<'a> {
     Row(Row),

@@ -69,36 +69,17 @@ impl ShortBuffer {
     }
 }
 
-impl Line<'_> {
+impl<'a> Line<'a> {
     // The line's name, where it has one; all else takes at most 58 bytes.
-    // The numbers are bound because their widths limit the text.
-    #[allow(unused_variables)]
     #[tactic(auto, using(crate::proofs::Lengths::text_length))]
-    fn name(&self) -> Option<&[u8]>
-        ensures value { name_bytes result ≡ name_of self.now }
-        ensures others { length (text self.now) ≤ 58 + length (name_of self.now) }
+    fn name(self) -> Option<&'a [u8]>
+        ensures value { name_bytes result ≡ name_of self.entry }
+        ensures others { length (text self.entry) ≤ 58 + length (name_of self.entry) }
     {
-        match *self {
-            Line::Granted { index, name } => name,
-            Line::Seated {
-                index,
-                line,
-                site,
-                rise,
+        match self {
+            Line::Granted { name, .. } | Line::Seated { name, .. } | Line::Refused { name, .. } =>
                 name,
-            } => name,
-            Line::Refused {
-                index,
-                number,
-                name,
-            } => name,
-            Line::Unreadable {
-                index,
-                number,
-                place,
-            } => None,
-            Line::Cell { number, line, site } => None,
-            Line::Cost { cost } => None,
+            Line::Unreadable { .. } | Line::Cell { .. } | Line::Cost { .. } => None,
         }
     }
 
