@@ -6,9 +6,10 @@ ghost use Rattle.job.specs.declared.record.Cause.TheVariants.{UnknownMeasure};
 use crate::named::Name;
 use measure::UnknownMeasure;
 use row::{Cell, Row};
+use std::error::Error;
 use std::fmt;
 
-// One record of a job.
+// One record of a job. A cell and its name stay two fields, as users of this public type match them: what takes both takes them apart at once.
 #[derive(Clone, Copy)]
 pub enum Record<'a> {
     Row(Row),
@@ -61,6 +62,8 @@ impl fmt::Display for Cause {
     }
 }
 
+impl Error for Cause {}
+
 // A refusal of the reader: its cause, the index of the record, and the place of the byte.
 #[derive(Clone, Copy, PartialEq, Eq, Debug)]
 pub struct Fault {
@@ -83,3 +86,5 @@ impl fmt::Display for Fault {
         write!(f, "{index} bad byte {place}: refusal {number}, {cause}")
     }
 }
+
+impl Error for Fault {}

@@ -13,18 +13,14 @@ use std::io::{Read, Write};
 fn digit_of(byte: u8) -> u8
     ensures { result < 16 }
 {
-    // Not `to_digit`, which takes lower case too, where this table has none.
-    match byte {
-        b'0'..=b'9' => byte - b'0',
-        b'A'..=b'F' => byte - b'A' + 10,
-        _ => 0,
-    }
+    char::from(byte).to_digit(16).unwrap_or(0) as u8
 }
 
 // Adds the bytes of a word, two digits each.
 fn put_bytes(bytes: &mut Vec<u8>, word: &str) -> Result<(), AllocError> {
-    for pair in word.as_bytes().chunks_exact(2) {
-        bytes.push(16 * digit_of(pair[0]) + digit_of(pair[1]))?;
+    let (pairs, _) = word.as_bytes().as_chunks::<2>();
+    for &[high, low] in pairs {
+        bytes.push(16 * digit_of(high) + digit_of(low))?;
     }
     Ok(())
 }

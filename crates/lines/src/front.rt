@@ -1,12 +1,12 @@
 // The front of a lent buffer, filled from its first byte on.
 // It is not filled by `write!`, whose contract does not say when it succeeds; a name is bytes and not text.
-ghost use Rattle.std.specs.Prelude.{◌++◌, codes};
+ghost use Rattle.std.specs.Prelude.{◌++◌, codes, decimal};
 ghost use Rattle.lines.specs.Fronts.{HasRoom, Puts};
-ghost use Rattle.lines.specs.Texts.{ending};
+ghost use Rattle.lines.specs.Texts.{ending, spot};
 
 use itoa::{Buffer, Integer};
 
-// A lent buffer, and where the bytes put into it end.
+// A lent buffer, and where the bytes put into it end. No `ArrayVec<u8, 320>`: the caller lends the buffer, and the line is written where it is wanted.
 #[derive(Drop)]
 pub(crate) struct Front<'a> {
     pub(crate) buffer: &'a mut [u8],
@@ -40,6 +40,24 @@ impl Front<'_> {
     {
         self.put(b" ");
         self.put_number(number);
+    }
+
+    // Puts the index of a record, and what came of it in a word.
+    pub(crate) fn put_head(&mut self, index: u32, word: &[u8])
+        requires room { HasRoom self.old (decimal index ++ word.now) }
+        ensures { Puts self.old (decimal index ++ word.now) self.new }
+    {
+        self.put_number(index);
+        self.put(word);
+    }
+
+    // Puts a spot: its line, then its site.
+    pub(crate) fn put_spot(&mut self, line: u32, site: u32)
+        requires room { HasRoom self.old (spot line site) }
+        ensures { Puts self.old (spot line site) self.new }
+    {
+        self.put_spaced(line);
+        self.put_spaced(site);
     }
 
     // Puts the name, if there is one, and ends the line.

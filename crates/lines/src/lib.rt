@@ -16,6 +16,7 @@ pub const LEAST_BUFFER: usize = 320;
 pub const LONGEST_NAME: usize = 255;
 
 // A line. The answer to a record begins with the record's index.
+// A refusal, of a record or of its reading, is its number here, since several crates refuse and this one knows none of them.
 #[derive(Clone, Copy)]
 pub enum Line<'a> {
     // `K ok`, or `K ok NAME`: a record is granted.
@@ -31,7 +32,7 @@ pub enum Line<'a> {
         rise: u64,
         name: Option<&'a [u8]>,
     },
-    // `K no N`, or `K no N NAME`: a record is refused. The refusal is its number here, since several crates refuse and this one knows none of them.
+    // `K no N`, or `K no N NAME`: a record is refused.
     Refused {
         index: u32,
         number: u32,
@@ -68,48 +69,28 @@ impl ShortBuffer {
     }
 }
 
-impl Line<'_> {
+impl<'a> Line<'a> {
     // The line's name, where it has one; all else takes at most 58 bytes.
-    // The numbers are bound because their widths limit the text.
-    #[allow(unused_variables)]
     #[tactic(auto, using(crate::proofs::Lengths::text_length))]
-    fn name(&self) -> Option<&[u8]>
-        ensures value { name_bytes result ≡ name_of self.now }
-        ensures others { length (text self.now) ≤ 58 + length (name_of self.now) }
+    fn name(self) -> Option<&'a [u8]>
+        ensures value { name_bytes result ≡ name_of self.entry }
+        ensures others { length (text self.entry) ≤ 58 + length (name_of self.entry) }
     {
-        match *self {
-            Line::Granted { index, name } => name,
-            Line::Seated {
-                index,
-                line,
-                site,
-                rise,
+        match self {
+            Line::Granted { name, .. } | Line::Seated { name, .. } | Line::Refused { name, .. } =>
                 name,
-            } => name,
-            Line::Refused {
-                index,
-                number,
-                name,
-            } => name,
-            Line::Unreadable {
-                index,
-                number,
-                place,
-            } => None,
-            Line::Cell { number, line, site } => None,
-            Line::Cost { cost } => None,
+            Line::Unreadable { .. } | Line::Cell { .. } | Line::Cost { .. } => None,
         }
     }
 
-    // Puts the line's text behind what the front holds.
+    // Puts the line's text behind what the front holds. One arm for each kind, its parts in the order of its text; the patterns take a line for each field.
     fn put(self, front: &mut Front)
         requires room { HasRoom front.old (text self) }
         ensures { Puts front.old (text self.entry) front.new }
     {
         match self {
             Line::Granted { index, name } => {
-                front.put_number(index);
-                front.put(b" ok");
+                front.put_head(index, b" ok");
                 front.put_ending(name);
             }
             Line::Seated {
@@ -119,10 +100,8 @@ impl Line<'_> {
                 rise,
                 name,
             } => {
-                front.put_number(index);
-                front.put(b" ok");
-                front.put_spaced(line);
-                front.put_spaced(site);
+                front.put_head(index, b" ok");
+                front.put_spot(line, site);
                 front.put_spaced(rise);
                 front.put_ending(name);
             }
@@ -131,8 +110,7 @@ impl Line<'_> {
                 number,
                 name,
             } => {
-                front.put_number(index);
-                front.put(b" no");
+                front.put_head(index, b" no");
                 front.put_spaced(number);
                 front.put_ending(name);
             }
@@ -141,16 +119,14 @@ impl Line<'_> {
                 number,
                 place,
             } => {
-                front.put_number(index);
-                front.put(b" bad");
+                front.put_head(index, b" bad");
                 front.put_spaced(number);
                 front.put_spaced(place);
                 front.put(b"\n");
             }
             Line::Cell { number, line, site } => {
                 front.put_number(number);
-                front.put_spaced(line);
-                front.put_spaced(site);
+                front.put_spot(line, site);
                 front.put(b"\n");
             }
             Line::Cost { cost } => {

@@ -11,6 +11,7 @@ use std::alloc::{AllocError, Global};
 fn put_records(out: &mut Vec<u8>, mut reader: Reader<'_>) -> Result<(), AllocError>
     ensures { Appends out.old result (record_lines (length (standing reader.entry).job + 1) (standing reader.entry)) out.new }
 {
+    // No iterator: the reader answers a `Result` of an `Option`, and stays at a fault, which an iterator would give again and again.
     loop {
         let index = reader.index();
         match reader.next_record() {
@@ -21,7 +22,7 @@ fn put_records(out: &mut Vec<u8>, mut reader: Reader<'_>) -> Result<(), AllocErr
     }
 }
 
-// Adds the lines of a job; what it allocates on the way comes from the buffer's own allocator.
+// Adds the lines of a job. The heap is lent and not used: what is allocated on the way comes from the buffer's own allocator.
 pub fn put_job(_heap: Global, out: &mut Vec<u8>, bytes: &[u8]) -> Result<(), AllocError>
     ensures { Appends out.old result (job_lines bytes.now) out.new }
 {

@@ -18,7 +18,7 @@ pub fn put_line(out: &mut Vec<u8>, text: &str) -> Result<(), AllocError>
     Ok(())
 }
 
-// Adds what a value prints. By a text of its own: a writer straight into the buffer answers `fmt::Error`, of which an `AllocError` could only be made by hand.
+// Adds what a value prints. By a text of its own: `write!` straight into the buffer answers an `io::Error`, of which an `AllocError` could only be made by hand.
 fn put<D: Display + Drop>(out: &mut Vec<u8>, shown: D) -> Result<(), AllocError>
     ensures { IfSome (D.output shown) (λ text. Appends out.old result text out.new) }
 {

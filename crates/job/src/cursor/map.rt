@@ -6,6 +6,7 @@ ghost use Rattle.job.specs.Reads.{Reads, viewed, bits};
 use crate::cursor::{Cursor, Flaw};
 use crate::record::Cause;
 
+// The bits of the maps are their numbers, as the format counts them: an enum of them would be cast back to its number at each use.
 // The bits of a row's map.
 pub(crate) const ROW_LINE: u32 = 0;
 

@@ -3,6 +3,7 @@ ghost use Rattle.std.specs.Prelude.{◌≡◌, ◌+◌, IfOk};
 ghost use Rattle.std.specs.Option.{option_map};
 ghost use Rattle.job.specs.Format.{printable, good_bytes, name, name_field};
 ghost use Rattle.job.specs.Reads.{Reads, viewed, named};
+ghost use Rattle.job.specs.declared.cursor.map.TheConstants.{CELL_NAME};
 
 use crate::cursor::map::{CELL_NAME, Map};
 use crate::cursor::{Cursor, Flaw};
@@ -50,7 +51,7 @@ impl<'a> Cursor<'a> {
 
     // The name, where its bit stands in the map.
     pub(crate) fn take_name_field(&mut self, map: Map) -> Result<Option<Name<'a>>, Flaw>
-        ensures { Reads (name_field map.bits 5) self.old (viewed (option_map named) result) self.new }
+        ensures { Reads (name_field map.bits CELL_NAME) self.old (viewed (option_map named) result) self.new }
     {
         if map.has(CELL_NAME) {
             Ok(Some(self.take_name()?))

@@ -2,28 +2,25 @@ use Rattle.lines.proofs.Fronts.{puts_then}
 use Rattle.lines.proofs.Line.put.Goals as goal
 
 pub returns-in-Granted : goal.returns-in-Granted
-returns-in-Granted c = rw c.in-Granted.is (puts_then (puts_then c.put_number.ensures c.put.ensures) c.put_ending.ensures)
+returns-in-Granted c = rw c.in-Granted.is (puts_then c.put_head.ensures c.put_ending.ensures)
 
 pub returns-in-Seated : goal.returns-in-Seated
 returns-in-Seated c =
-    let head = puts_then c.put_number-in-Seated.ensures c.put-in-Seated.ensures in
-    let spot = puts_then c.put_spaced.ensures c.put_spaced-in-Seated.ensures in
-    rw c.in-Seated.is (puts_then (puts_then (puts_then head spot) c.put_spaced-in-Seated-2.ensures) c.put_ending-in-Seated.ensures)
+    let spot = puts_then c.put_head-in-Seated.ensures c.put_spot.ensures in
+    rw c.in-Seated.is (puts_then (puts_then spot c.put_spaced.ensures) c.put_ending-in-Seated.ensures)
 
 pub returns-in-Refused : goal.returns-in-Refused
 returns-in-Refused c =
-    let head = puts_then c.put_number-in-Refused.ensures c.put-in-Refused.ensures in
-    rw c.in-Refused.is (puts_then (puts_then head c.put_spaced-in-Refused.ensures) c.put_ending-in-Refused.ensures)
+    rw c.in-Refused.is (puts_then (puts_then c.put_head-in-Refused.ensures c.put_spaced-in-Refused.ensures) c.put_ending-in-Refused.ensures)
 
 pub returns-in-Unreadable : goal.returns-in-Unreadable
 returns-in-Unreadable c =
-    let head = puts_then c.put_number-in-Unreadable.ensures c.put-in-Unreadable.ensures in
-    rw c.in-Unreadable.is (puts_then (puts_then (puts_then head c.put_spaced-in-Unreadable.ensures) c.put_spaced-in-Unreadable-2.ensures) c.put-in-Unreadable-2.ensures)
+    let number = puts_then c.put_head-in-Unreadable.ensures c.put_spaced-in-Unreadable.ensures in
+    rw c.in-Unreadable.is (puts_then (puts_then number c.put_spaced-in-Unreadable-2.ensures) c.put.ensures)
 
 pub returns-in-Cell : goal.returns-in-Cell
 returns-in-Cell c =
-    let spot = puts_then c.put_spaced-in-Cell.ensures c.put_spaced-in-Cell-2.ensures in
-    rw c.in-Cell.is (puts_then (puts_then c.put_number-in-Cell.ensures spot) c.put-in-Cell.ensures)
+    rw c.in-Cell.is (puts_then (puts_then c.put_number.ensures c.put_spot-in-Cell.ensures) c.put-in-Cell.ensures)
 
 pub returns-in-Cost : goal.returns-in-Cost
 returns-in-Cost c =
