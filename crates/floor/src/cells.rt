@@ -5,10 +5,7 @@ ghost use Rattle.floor.specs.Seats.{cell_of};
 
 use crate::Seat;
 use arrayvec::ArrayVec;
-use row::Cell;
-
-// The most cells that a floor has, and so a row of it.
-pub(crate) const MOST_CELLS: usize = 1_024;
+use row::{Cell, MOST_CELLS};
 
 // The cells of a row, on the stack: trying a cell takes no heap.
 pub(crate) type RowCells = ArrayVec<Cell, MOST_CELLS>;

@@ -8,10 +8,9 @@ ghost use Rattle.floor.specs.Formed.{formed};
 ghost use Rattle.floor.specs.Refusals.{cell_refusal, has_sites};
 ghost use Rattle.floor.specs.Seats.{CanTake, cells_on, joined};
 
-use crate::cells::MOST_CELLS;
 use crate::seats::{Seats, set_ready};
 use measure::Measure;
-use row::{Cell, Row};
+use row::{Cell, MOST_CELLS, Row};
 
 // A cell that is offered to the rows of a floor: no check refuses it but that of the rows.
 #[derive(Drop)]

@@ -8,12 +8,11 @@ ghost use Rattle.floor.specs.Refusals.{cell_refusal};
 ghost use Rattle.floor.specs.Settled.{Settled, Least, CostsMore};
 ghost use Rattle.floor.specs.State.{rows_of, seats_of};
 
-use crate::cells::MOST_CELLS;
 use crate::choice::{Choice, Offer};
 use crate::floor::Floor;
 use crate::{Placing, Refusal};
 use measure::Measure;
-use row::Cell;
+use row::{Cell, MOST_CELLS};
 
 impl<M: Measure> Floor<M> {
     // Refuses a cell that no row can take, by the first check that fails.

@@ -6,9 +6,8 @@ ghost use Rattle.floor.specs.Seats.{new_seat, seat_ahead};
 ghost use Rattle.table.specs.Order.{rank_of};
 
 use crate::Seat;
-use crate::cells::MOST_CELLS;
 use crate::seats::Seats;
-use row::{Cell, Row, Spot};
+use row::{Cell, MOST_CELLS, Row, Spot};
 use std::alloc::{AllocError, Global};
 use table::place_of;
 

@@ -8,10 +8,10 @@ ghost use Rattle.floor.specs.Refusals.{stands};
 ghost use Rattle.floor.specs.Seats.{CanTake, moved_all, cells_on, joined, settled};
 
 use crate::Seat;
-use crate::cells::{MOST_CELLS, RowCells, push_cells};
+use crate::cells::{RowCells, push_cells};
 use crate::seats::Seats;
 use measure::Measure;
-use row::{Cell, Row, set};
+use row::{Cell, MOST_CELLS, Row, set};
 use table::place_of;
 
 // Sets a row that `set` does not refuse: fills the sites, and answers what they cost.
