@@ -1,9 +1,6 @@
 use Rattle.std.proofs.Common.{◌≡◌, ◌+◌, ◌<◌, length, is_ok, vec_items, vec_len, sym, refl, ap, ◌∙◌, subst, true, arith}
-use Rattle.std.specs.List.{insert}
 use Rattle.std.proofs.lemmas.Bool.{cond-true}
-use Rattle.row.specs.Records.{row_ahead}
 use Rattle.row.specs.Task.{changed}
-use Rattle.table.specs.Order.{Ordered, rank_of}
 use Rattle.floor.specs.Calls.{with_row}
 use Rattle.floor.specs.Formed.{formed}
 use Rattle.floor.specs.Settled.{Settled}
