@@ -8,6 +8,7 @@ use Rattle.floor.proofs.Keeping.{add_settled}
 use Rattle.floor.proofs.Rowed.{row_added, row_placed, not_full}
 use Rattle.floor.proofs.floor.Floor.add_row.Goals as goal
 
+-- the two goals stand at two places of the body, whose facts have two types: so `row_placed` is given them at each
 pub invariant_of-self : goal.invariant_of-self
 invariant_of-self g c =
     let self = c.args.self.now in

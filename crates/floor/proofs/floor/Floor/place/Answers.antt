@@ -10,6 +10,7 @@ use Rattle.floor.proofs.Placed.{Chose, chose, answers, seats_then, seated_found}
 use Rattle.floor.proofs.floor.Floor.place.Given as given
 use Rattle.floor.proofs.floor.Floor.place.Goals as goal
 
+-- the first two goals stand at two places before the return, whose facts have types of their own: so `chose` is given them at each
 pub seat-requires-clause-ready : goal.seat-requires-clause-ready
 seat-requires-clause-ready g c =
     let self = c.args.self.now in
