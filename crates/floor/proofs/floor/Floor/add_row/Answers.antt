@@ -1,9 +1,6 @@
 use Rattle.std.proofs.Common.{◌≡◌, ◌+◌, ◌<◌, length, is_ok, vec_items, vec_len, sym, refl, ap, ◌∙◌, subst, true, arith}
-use Rattle.std.specs.List.{insert}
 use Rattle.std.proofs.lemmas.Bool.{cond-true}
-use Rattle.row.specs.Records.{row_ahead}
 use Rattle.row.specs.Task.{changed}
-use Rattle.table.specs.Order.{Ordered, rank_of}
 use Rattle.floor.specs.Calls.{with_row}
 use Rattle.floor.specs.Formed.{formed}
 use Rattle.floor.specs.Settled.{Settled}
@@ -11,6 +8,7 @@ use Rattle.floor.proofs.Keeping.{add_settled}
 use Rattle.floor.proofs.Rowed.{row_added, row_placed, not_full}
 use Rattle.floor.proofs.floor.Floor.add_row.Goals as goal
 
+-- the two goals stand at two places of the body, whose facts have two types: so `row_placed` is given them at each
 pub invariant_of-self : goal.invariant_of-self
 invariant_of-self g c =
     let self = c.args.self.now in

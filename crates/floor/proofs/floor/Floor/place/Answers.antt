@@ -6,9 +6,11 @@ use Rattle.floor.specs.Settled.{Settled}
 use Rattle.floor.proofs.Best.{place_least}
 use Rattle.floor.proofs.Dearer.{place_dearer}
 use Rattle.floor.proofs.Keeping.{place_settled}
-use Rattle.floor.proofs.Placed.{chose, answers, seats_then, seated_found}
+use Rattle.floor.proofs.Placed.{Chose, chose, answers, seats_then, seated_found}
+use Rattle.floor.proofs.floor.Floor.place.Given as given
 use Rattle.floor.proofs.floor.Floor.place.Goals as goal
 
+-- the first two goals stand at two places before the return, whose facts have types of their own: so `chose` is given them at each
 pub seat-requires-clause-ready : goal.seat-requires-clause-ready
 seat-requires-clause-ready g c =
     let self = c.args.self.now in
@@ -25,17 +27,21 @@ unwrap-seat-requires g c =
     let self = c.args.self.now in
     subst IsSome (sym (c.find.ensures ∙ ap (seat_of c.args.cell.number) c.seat.ensures)) (seated_found (g.M.Measure.price self.measure) self.seats.items.items c.args.cell c.in_ok-choice.choice.row)
 
+-- what is known at the return
+known : (g : given.Over) (c : goal.After-spot g) → let self = c.args.self.now in Chose (g.M.Measure.price self.measure) self.rows.items self.seats.items.items c.args.cell c.in_ok-choice.choice
+known g c =
+    let self = c.args.self.now in
+    chose (g.met.M.Measure.fair self.measure) self.rows.items self.seats.items.items c.args.cell self.well c.in_ok-check_cell.ensures c.in_ok-choice.ensures.value c.choose.ensures
+
 pub returns-clause-answer : goal.returns-clause-answer
 returns-clause-answer g c =
     let self = c.args.self.now in
-    let known = chose (g.met.M.Measure.fair self.measure) self.rows.items self.seats.items.items c.args.cell self.well c.in_ok-check_cell.ensures c.in_ok-choice.ensures.value c.choose.ensures in
-    answers self.rows.items self.seats.items.items c.seat.new.self.items.items c.args.cell c.in_ok-choice.choice c.unwrap-seat.result known c.seat.ensures (sym c.find.ensures ∙ c.unwrap-seat.ensures) c.spot.ensures
+    answers self.rows.items self.seats.items.items c.seat.new.self.items.items c.args.cell c.in_ok-choice.choice c.unwrap-seat.result (known g c) c.seat.ensures (sym c.find.ensures ∙ c.unwrap-seat.ensures) c.spot.ensures
 
 pub returns-clause-seats : goal.returns-clause-seats
 returns-clause-seats g c =
     let self = c.args.self.now in
-    let known = chose (g.met.M.Measure.fair self.measure) self.rows.items self.seats.items.items c.args.cell self.well c.in_ok-check_cell.ensures c.in_ok-choice.ensures.value c.choose.ensures in
-    c.seat.ensures ∙ seats_then self.rows.items self.seats.items.items c.args.cell c.in_ok-choice.choice known
+    c.seat.ensures ∙ seats_then self.rows.items self.seats.items.items c.args.cell c.in_ok-choice.choice (known g c)
 
 pub returns-clause-least : goal.returns-clause-least
 returns-clause-least g c =

@@ -1,6 +1,7 @@
 use Rattle.floor.proofs.Settling.{set_row}
 use Rattle.floor.proofs.seats.Seats.settle.Goals as goal
 
+-- the two goals stand at two places of the body, whose facts have two types: so `set_row` is given them at each
 pub invariant_of-self : goal.invariant_of-self
 invariant_of-self g c =
     let self = c.args.self.now in
