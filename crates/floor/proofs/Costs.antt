@@ -1,9 +1,9 @@
 -- What one seat costs, under a fair measure.
-use Rattle.std.proofs.Common.{◌≡◌, ℕ, ◌+◌, ◌^◌, ◌<◌, ◌≤◌, true, ◌&&◌, leb, List, length, get_or, drop, ◌∙◌, arith}
+use Rattle.std.proofs.Common.{◌≡◌, ℕ, ◌+◌, ◌^◌, ◌<◌, ◌≤◌, true, List, length, get_or, drop, ◌∙◌, arith}
 use Rattle.std.proofs.ByRecursion.{All-get_or}
 use Rattle.std.proofs.lemmas.List.{at_drop_more}
-use Rattle.std.proofs.lemmas.Bool.{and_from, le-leb, cond-true}
-use Rattle.measure.specs.Costs.{Fair, InRange, in_range, cost_of}
+use Rattle.measure.specs.Costs.{Fair, InRange, cost_of}
+use Rattle.row.proofs.Costs.{cost_within}
 use Rattle.row.proofs.Ranges.{ranged}
 use Rattle.row.specs.declared.Row.{Row}
 use Rattle.floor.specs.Formed.{formed}
@@ -11,17 +11,6 @@ use Rattle.floor.specs.Seats.{floor_cost}
 use Rattle.floor.specs.declared.Seat.{Seat}
 use Rattle.floor.proofs.Defaults.{no_seat}
 use Rattle.floor.proofs.Known.{SeatKnown, known_slice}
-
--- the test of the ranges, where they hold
-in_range_true : (w e p : ℕ) → InRange w e p → in_range w e p ≡ true
-in_range_true w e p h =
-    and_from (leb w 65535) (leb 1 e && (leb e 1000 && leb p 65535)) (le-leb w 65535 h.0)
-    (and_from (leb 1 e) (leb e 1000 && leb p 65535) (le-leb 1 e h.1)
-    (and_from (leb e 1000) (leb p 65535) (le-leb e 1000 h.2) (le-leb p 65535 h.3)))
-
--- what a measure answers there is its price
-pub cost_within : (f : ℕ → ℕ → ℕ → ℕ) (w e p : ℕ) → InRange w e p → cost_of f w e p ≡ f w e p
-cost_within f w e p h = cond-true (in_range w e p) (f w e p) 0 (in_range_true w e p h)
 
 -- what one seat of a floor adds to its cost, as a measure answers it
 pub record Costed (f : ℕ → ℕ → ℕ → ℕ) (seats : List Seat) (i across up : ℕ) : Type 0 where
