@@ -2,10 +2,11 @@
 use Rattle.std.proofs.Common.{◌≡◌, ℕ, ◌+◌, ◌*◌, ◌^◌, ◌<◌, ◌≤◌, Bool, true, false, cond, ◌&&◌, leb, List, [], ◌∷◌, length, get_or, map, drop, refl, ◌∙◌, arith}
 use Rattle.std.proofs.ByRecursion.{All-get_or}
 use Rattle.std.proofs.lemmas.List.{at_drop_more}
-use Rattle.std.proofs.lemmas.Bool.{and_parts, and_from, le-leb, leb-true, cond-true}
+use Rattle.std.proofs.lemmas.Bool.{and_parts, leb-true}
 use Rattle.std.proofs.lemmas.List.Sums.{sum_by-cons}
 use Rattle.std.specs.List.{AllByRecursion, sum_by}
 use Rattle.measure.specs.Costs.{Fair, InRange, in_range, cost_of}
+use Rattle.row.proofs.Costs.{cost_within}
 use Rattle.row.proofs.Ranges.{ranged}
 use Rattle.row.specs.Sites.{sites_cost}
 use Rattle.row.specs.declared.Row.{Row}
@@ -15,18 +16,7 @@ use Rattle.floor.specs.declared.Seat.{Seat}
 use Rattle.floor.proofs.Defaults.{no_seat}
 use Rattle.floor.proofs.Known.{SeatKnown, known_slice}
 
--- the test of the ranges, where they hold
-in_range_true : (w e p : ℕ) → InRange w e p → in_range w e p ≡ true
-in_range_true w e p h =
-    and_from (leb w 65535) (leb 1 e && (leb e 1000 && leb p 65535)) (le-leb w 65535 h.0)
-    (and_from (leb 1 e) (leb e 1000 && leb p 65535) (le-leb 1 e h.1)
-    (and_from (leb e 1000) (leb p 65535) (le-leb e 1000 h.2) (le-leb p 65535 h.3)))
-
--- what a measure answers there is its price
-pub cost_within : (f : ℕ → ℕ → ℕ → ℕ) (w e p : ℕ) → InRange w e p → cost_of f w e p ≡ f w e p
-cost_within f w e p h = cond-true (in_range w e p) (f w e p) 0 (in_range_true w e p h)
-
--- and they hold where the test says so
+-- the ranges hold where the test says so
 range_within : (w e p : ℕ) → in_range w e p ≡ true → InRange w e p
 range_within w e p h =
     let a = and_parts (leb w 65535) (leb 1 e && (leb e 1000 && leb p 65535)) h in

@@ -13,7 +13,7 @@ use Rattle.row.proofs.Rises.{in_ranges}
 use Rattle.floor.specs.Calls.{seated}
 use Rattle.floor.specs.Seats.{cells_on, sites_on, joined, row_cost}
 use Rattle.floor.specs.declared.Seat.{Seat}
-use Rattle.floor.proofs.Costs.{cost_within}
+use Rattle.row.proofs.Costs.{cost_within}
 use Rattle.floor.proofs.Resited.{resited_cells_on, resited_sites_on}
 use Rattle.floor.proofs.Settling.{sites_long}
 
