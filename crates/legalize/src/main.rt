@@ -17,25 +17,25 @@ fn print_answer(rt: &HostRuntime, job: &[u8]) -> io::Result<()> {
     rt.stdout().write_all(said.as_slice())
 }
 
-// Reads a job and prints its lines. Says in plain words why not, or that there was no job; whether all went well.
-fn legalize(rt: &HostRuntime) -> io::Result<bool> {
+// Reads a job and prints its lines. Says in plain words why not, or that there was no job; the status says whether all went well.
+fn legalize(rt: &HostRuntime) -> io::Result<ExitCode> {
     let mut job = Vec::new(rt.alloc());
     if let Err(why) = rt.stdin().read_to_end(&mut job) {
         eprintln!(rt; "legalize: the job on standard input cannot be read: {why}")?;
-        return Ok(false);
+        return Ok(ExitCode::FAILURE);
     }
     print_answer(rt, job.as_slice())?;
     if job.is_empty() {
         rt.eprintln(NO_JOB)?;
+        return Ok(ExitCode::FAILURE);
     }
-    Ok(!job.is_empty())
+    Ok(ExitCode::SUCCESS)
 }
 
 // Where there is no job, or it cannot be read or answered, ends with status 1.
 fn main(rt: HostRuntime) -> ExitCode {
     match legalize(&rt) {
-        Ok(true) => ExitCode::SUCCESS,
-        Ok(false) => ExitCode::FAILURE,
+        Ok(code) => code,
         Err(why) => {
             let _ = eprintln!(rt; "legalize: {why}");
             ExitCode::FAILURE

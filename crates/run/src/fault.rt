@@ -52,10 +52,7 @@ impl Fault {
     pub(crate) fn ends_job(self) -> bool
         ensures { result ≡ ends self }
     {
-        match self {
-            Fault::Unread(_) => true,
-            Fault::Refused(_) => false,
-        }
+        matches!(self, Fault::Unread(_))
     }
 
     // The line of a fault of a record with a name or none: only the line of a refusal shows the name.

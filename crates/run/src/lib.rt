@@ -3,6 +3,8 @@
 
 mod fault;
 mod run;
+#[cfg(test)]
+mod tests;
 mod whole;
 
 pub use fault::{Fault, Refused};

@@ -27,10 +27,12 @@ use record::record_name;
 pub struct Run<'a, M> {
     reader: Reader<'a>,
     floor: Floor<M>,
+    // A flag, and no `Option` of the reader: where the reader stands is part of `State` after the end too, and an `Option` would lose it.
     ended: bool,
 }
 
 // The line of a record, and the run's fault if there was one.
+// `Step` has only the length of this line: one type for both would need a parameter for its first field.
 #[derive(Clone, Copy)]
 pub(crate) struct Said<'a> {
     pub(crate) line: Line<'a>,
@@ -60,6 +62,7 @@ impl<'a, M: Measure> Run<'a, M> {
 
 impl<'a, M: Measure + Drop> Run<'a, M> {
     // What is said of a record with a name or none that was carried out or not; a record that cannot be read ends the job.
+    // Short names and small faults are clauses: `Line` and `Fault` are public and hold any, and a type around each would be undone in every call.
     fn conclude(&mut self, name: Option<&'a [u8]>, carried: Result<Line<'a>, Fault>) -> Said<'a>
         requires short_name { IfSome name (λ bytes. length bytes.now ≤ 255) }
         requires short_line { IfOk carried (λ line. length (name_of line) ≤ 255) }

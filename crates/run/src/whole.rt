@@ -22,18 +22,13 @@ fn put_steps(out: &mut Vec<u8>, run: &mut Run<'_, MeasureName>) -> Result<(), Al
     ensures same { measure_in run.new ≡ measure_in run.old }
 {
     let mut buffer = [0; LEAST_BUFFER];
-    loop {
-        match run.step(&mut buffer) {
-            Ok(next) => match next {
-                Some(step) => out.extend_from_slice(&buffer[..step.length])?,
-                None => return Ok(()),
-            },
-            Err(_) => return Ok(()),
-        }
+    while let Some(step) = run.step(&mut buffer).unwrap() {
+        out.extend_from_slice(&buffer[..step.length])?;
     }
+    Ok(())
 }
 
-// Adds a line for each cell that stands.
+// Adds a line for each cell that stands. They are asked for by their place in the order, and a floor has at most 1,024.
 fn put_cells(out: &mut Vec<u8>, run: &Run<'_, MeasureName>) -> Result<(), AllocError>
     ensures { Appends out.old result (cell_texts (state run.now).seats) out.new }
 {
@@ -48,14 +43,13 @@ fn put_cells(out: &mut Vec<u8>, run: &Run<'_, MeasureName>) -> Result<(), AllocE
 }
 
 // Adds the line of what all standing cells cost.
+// What this repeats of the others is a buffer and one call, `extend_from_slice`; a function for that would be the call under another name.
 fn put_cost(out: &mut Vec<u8>, run: &Run<'_, MeasureName>) -> Result<(), AllocError>
     ensures { Appends out.old result (costs_text (named_price (measure_in run.now)) (state run.now)) out.new }
 {
     let mut buffer = [0; LEAST_BUFFER];
-    match run.cost_line(&mut buffer) {
-        Ok(length) => out.extend_from_slice(&buffer[..length]),
-        Err(_) => unreachable!(),
-    }
+    let length = run.cost_line(&mut buffer).unwrap();
+    out.extend_from_slice(&buffer[..length])
 }
 
 // Adds a line.
@@ -64,10 +58,8 @@ fn put_line(out: &mut Vec<u8>, line: Line<'_>) -> Result<(), AllocError>
     ensures { Appends out.old result (text line.entry) out.new }
 {
     let mut buffer = [0; LEAST_BUFFER];
-    match line.write(&mut buffer) {
-        Ok(length) => out.extend_from_slice(&buffer[..length]),
-        Err(_) => unreachable!(),
-    }
+    let length = line.write(&mut buffer).unwrap();
+    out.extend_from_slice(&buffer[..length])
 }
 
 // Carries out a whole job, and adds a line for each record, a line for each cell that stands then, and one for what they cost.

@@ -43,27 +43,23 @@ impl<'a, M: Measure + Drop> Run<'a, M> {
         ensures short { IfOk result (λ line. length (name_of line) ≤ 255) }
         ensures small { IfErr result Small }
     {
+        let refused = |refusal| Refused { index, refusal };
         match found {
             Record::Row(row) => {
-                self.floor
-                    .add_row(row)
-                    .map_err(|refusal| Refused { index, refusal })?;
+                self.floor.add_row(row).map_err(refused)?;
                 Ok(Line::Granted {
                     index: index as u32,
                     name: None,
                 })
             }
-            Record::Place(cell, name) => {
-                let placing = self
-                    .floor
-                    .place(cell)
-                    .map_err(|refusal| Refused { index, refusal })?;
+            Record::Place(cell, _) => {
+                let placing = self.floor.place(cell).map_err(refused)?;
                 Ok(Line::Seated {
                     index: index as u32,
                     line: placing.spot.line,
                     site: placing.spot.site,
                     rise: placing.rise,
-                    name: name.map(|name| name.text),
+                    name: record_name(found),
                 })
             }
             Record::Withdraw(_) | Record::Try(_, _) => Err(Fault::from(job::Fault {

@@ -6,8 +6,8 @@ use Rattle.run.specs.Texts.{run_text}
 use Rattle.run.proofs.whole.put_steps.Given as goal
 
 -- what is there and what is to come are all that is said
-abbrev pub invariant-loop-next : goal.invariant-loop-next
-invariant-loop-next l =
+abbrev pub invariant-loop-step : goal.invariant-loop-step
+invariant-loop-step l =
     let price = named_price (measure_in l.initial.run) in
     (most : ℕ) × (left (state l.run) ≤ most)
     × (vec_items l.out ++ run_text price most (state l.run) ≡ vec_items l.initial.out ++ run_text price (length (state l.initial.run).reader.job + 1) (state l.initial.run))
@@ -15,5 +15,5 @@ invariant-loop-next l =
     × (length l.buffer ≡ 320)
 
 -- the steps that are left
-abbrev pub decreases-loop-next : goal.decreases-loop-next
-decreases-loop-next l = left (state l.run)
+abbrev pub decreases-loop-step : goal.decreases-loop-step
+decreases-loop-step l = left (state l.run)

@@ -1,0 +1,28 @@
+// Whole jobs, with what is said of them.
+use crate::whole::carry_out;
+use std::test::Fail;
+
+#[test]
+fn jobs(rt: HostRuntime) -> Result<(), Fail> {
+    let cases: [(&[u8], &[u8]); 4] = [
+        // A row, a cell, a cell with a name, and a cell of the first one's number.
+        (
+            b"\x00\x01\x04\x0A\x00\x02\x0B\x01\x00\x03\x00\x04\x00\x02\x2B\x02\x00\x04\x00\x02\x00\x02\x66\x66\x02\x09\x03\x00\x05\x00",
+            b"0 ok\n1 ok 0 3 0\n2 ok 0 5 5 ff\n3 no 7\n1 0 1\n2 0 5\ncost 5\n",
+        ),
+        // No measure, and one that is none.
+        (b"", b"0 bad 15 0\n"),
+        (b"\x02", b"0 bad 19 0\n"),
+        // A row, and a cell that is tried and not placed: the cell behind it is not placed either.
+        (
+            b"\x00\x01\x04\x0A\x00\x04\x0B\x01\x00\x03\x00\x04\x00\x02\x0B\x01\x00\x03\x00\x04\x00",
+            b"0 ok\n1 bad 16 5\ncost 0\n",
+        ),
+    ];
+    for (bytes, lines) in cases {
+        let mut said = Vec::new(rt.alloc());
+        carry_out(rt.alloc(), &mut said, bytes)?;
+        assert_eq!(rt; said.as_slice(), lines);
+    }
+    Ok(())
+}
