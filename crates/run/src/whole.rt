@@ -11,10 +11,8 @@ use crate::run::Run;
 use floor::Floor;
 use job::{Job, MeasureName};
 use lines::{LEAST_BUFFER, Line};
+use row::MOST_CELLS;
 use std::alloc::{AllocError, Global};
-
-// The most cells that stand on a floor.
-const MOST_CELLS: usize = 1_024;
 
 // Carries out the records that are left, and adds a line for each.
 fn put_steps(out: &mut Vec<u8>, run: &mut Run<'_, MeasureName>) -> Result<(), AllocError>
