@@ -13,7 +13,7 @@ use std::io::{BufRead, BufReader};
 // What the buffer holds before a call.
 const UNTOUCHED: u32 = 77;
 
-// The numbers of a line.
+// The numbers of a line. A loop and no `collect`, which is no plainer: a refused word and no memory are two errors, each of which wants its own `?`.
 fn numbers(heap: Global, line: &str) -> anyhow::Result<Vec<u32>> {
     let mut all = Vec::new(heap);
     for word in line.split_whitespace() {
@@ -59,19 +59,14 @@ fn run(heap: Global, line: &str) -> anyhow::Result<String> {
     let [measure, line, left, right, length, fields @ ..] = all.as_slice() else {
         return Err(anyhow!("a line has too few numbers"));
     };
-    // Any number but 0 is the plain measure, by the rule of the table.
-    let measure = if *measure == 0 {
-        MeasureName::Squared
-    } else {
-        MeasureName::Plain
-    };
+    let measure = MeasureName::try_from(u8::try_from(*measure)?)?;
     let row = Row {
         line: *line,
         left: *left,
         right: *right,
     };
     let cells = cells_of(heap, fields)?;
-    let mut sites = vec![in heap; UNTOUCHED; *length as usize]?;
+    let mut sites = vec![in heap; UNTOUCHED; usize::try_from(*length)?]?;
     let answer = set(&measure, row, &cells, &mut sites);
     Ok(shown(heap, answer, &sites)?)
 }

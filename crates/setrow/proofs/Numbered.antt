@@ -1,11 +1,21 @@
 -- The numbers of a line, one word after another.
-use Rattle.std.proofs.Common.{◌≡◌, ℕ, suc, ◌+◌, ◌-◌, ◌<◌, List, [], ◌∷◌, ◌++◌, length, take, set, Ok, Err, Result, sym, refl, ap, ◌∙◌, append_assoc, arith}
+use Rattle.std.proofs.Common.{◌≡◌, ℕ, suc, ◌+◌, ◌-◌, ◌<◌, List, [], ◌∷◌, ◌++◌, length, take, set, Ok, Err, Result, true, not, ◌==◌, subst, sym, refl, ap, ◌∙◌, append_assoc, arith}
+use Rattle.std.proofs.lemmas.Bool.Decides.{nat_tests}
+use Rattle.std.proofs.lemmas.List.Elements.{filter_passes}
 use Rattle.std.proofs.lemmas.List.{take_more_set, length-set}
 use Rattle.setrow.specs.declared.task.Form.{Form}
 use Rattle.setrow.specs.declared.task.Reason.{Reason}
 use Rattle.setrow.specs.declared.task.Reason.TheVariants.{TooFewWords}
 use Rattle.setrow.specs.Numbers.{number_of, numbers_of}
+use Rattle.std.specs.List.{All}
+use Rattle.setrow.specs.Text.{filled}
 use Rattle.setrow.specs.Steps.{then}
+
+-- a word is never empty
+pub some_bytes : (ps : List (List ℕ)) (w : List ℕ) (ws : List (List ℕ)) → filled ps ≡ w ∷ ws → 0 < length w
+some_bytes ps w ws e =
+    let passes = subst (λ l. All (λ part. not (length part == 0) ≡ true) l) e (filter_passes _ ps) 0 [] (omega arith) in
+    grind (arith, nat_tests)
 
 -- what is read after the values, behind them
 abbrev pub behind : {A E : Type 0} → List A → Result (List A) E → Result (List A) E

@@ -8,7 +8,7 @@ use crate::task::{Form, Reason};
 use measure::MeasureName;
 use row::{Cell, Row, Spot};
 
-// The measure of this name.
+// The measure of this name. No `FromStr`, which takes text: a word is bytes, and need not be UTF-8.
 fn measure_named(word: &[u8]) -> Result<MeasureName, Reason>
     ensures { result ≡ named word.now }
 {

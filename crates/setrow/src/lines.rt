@@ -14,6 +14,7 @@ pub(crate) struct Entry<'a> {
 }
 
 // The lines that are left of a text, and how many were read.
+// The count is a field and no `enumerate`: `next_number` reads it when the lines are at their end and the iterator yields no more.
 #[derive(Drop)]
 pub(crate) struct Lines<'a> {
     lines: Parts<'a>,

@@ -1,26 +1,24 @@
 // How a word is read as a number.
-ghost use Rattle.std.specs.Prelude.{◌≡◌, ◌^◌, ◌<◌, SomeIff};
-ghost use Rattle.setrow.specs.Numbers.{and_digit, number_of};
+ghost use Rattle.std.specs.Prelude.{◌≡◌, ◌<◌, length};
+ghost use Rattle.std.specs.Str.{all_ascii_digits};
+ghost use Rattle.setrow.specs.Numbers.{number_of};
 
 use crate::task::Reason;
 
-// The value with one digit more, where it fits.
-fn with_digit(value: u32, digit: u8) -> Option<u32>
-    ensures { SomeIff result (and_digit value digit < 2 ^ 32) (and_digit value digit) }
+// Whether the bytes of a word are digits alone.
+fn is_decimal(word: &[u8]) -> bool
+    ensures { result ≡ all_ascii_digits word.now }
 {
-    value
-        .checked_mul(10)?
-        .checked_add(u32::from(digit.saturating_sub(b'0')))
+    word.iter().all(u8::is_ascii_digit)
 }
 
-// The number that a word writes, where it is one and fits.
+// The number that a word, which is never empty, writes, where it is one and fits.
 pub(crate) fn number(word: &[u8]) -> Result<u32, Reason>
+    requires { 0 < length word.now }
     ensures { result ≡ number_of word.now }
 {
-    if !word.iter().all(u8::is_ascii_digit) {
-        return Err(Reason::NotNumber);
+    match str::from_utf8(word) {
+        Ok(digits) if is_decimal(word) => { digits.parse::<u32>().map_err(|_| Reason::TooLarge) }
+        _ => Err(Reason::NotNumber),
     }
-    word.iter()
-        .try_fold(0, |value, digit| with_digit(value, *digit))
-        .ok_or(Reason::TooLarge)
 }

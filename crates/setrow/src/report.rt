@@ -5,7 +5,7 @@ ghost use Rattle.setrow.specs.Shown.{cell_lines, Adds, shown as shown_as};
 use row::{Cell, Refusal};
 use std::alloc::{AllocError, Global};
 
-// Adds a line for each cell.
+// Adds a line for each cell. The sites stand beside the cells, since they are the buffer that was lent to `set`.
 fn put_cells(text: &mut String, cells: &[Cell], sites: &[u32]) -> Result<(), AllocError>
     ensures { Adds (cell_lines cells.now sites.now) text.old text.new result }
 {

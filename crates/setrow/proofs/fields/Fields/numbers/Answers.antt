@@ -1,7 +1,8 @@
 use Rattle.std.proofs.Common.{Err, ap, ◌∙◌, arith}
 use Rattle.std.proofs.lemmas.Result.{err_from_is_err_and}
 use Rattle.setrow.specs.declared.task.Reason.TheVariants.{TooFewWords}
-use Rattle.setrow.proofs.Numbered.{too_few, unread, one_more}
+use Rattle.setrow.specs.Parts.{parts_left}
+use Rattle.setrow.proofs.Numbered.{some_bytes, too_few, unread, one_more}
 use Rattle.setrow.proofs.fields.Fields.numbers.Goals as goal
 
 pub returns-in_err-word : goal.returns-in_err-word
@@ -21,3 +22,6 @@ loop-value-preserved g c = record {
   same_form = c.in_ok-word.ensures.form ∙ c.loop-value.invariant.same_form;
   sofar = one_more c.loop-value.invariant.sofar (omega arith) _ _ _ c.in_ok-word.ensures.word c.in_ok-value.ensures;
 }
+
+pub number-requires : goal.number-requires
+number-requires g c = some_bytes (parts_left c.loop-value.self.words.0) _ _ c.in_ok-word.ensures.word
