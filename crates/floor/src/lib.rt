@@ -25,7 +25,7 @@ pub struct Placing {
     pub rise: u64,
 }
 
-// Why a call of the floor is refused.
+// Why a call of the floor is refused. What is printed of a refusal is its number, by the rule of the formats, so that it has no words of its own.
 #[derive(Clone, Copy, PartialEq, Eq, Debug)]
 pub enum Refusal {
     OutOfRange(Fault),

@@ -46,7 +46,7 @@ pub enum Fault {
     Row = 9,
 }
 
-// Why a row is not set.
+// Why a row is not set. What is printed of a refusal is its number, by the rule of the formats, so that it has no words of its own.
 #[derive(Clone, Copy, PartialEq, Eq, Debug)]
 pub enum Refusal {
     OutOfRange(Fault),

@@ -14,7 +14,7 @@ pub struct Refused {
     pub refusal: Refusal,
 }
 
-// The fault of a run: a record cannot be read, or the floor refuses it.
+// The fault of a run: a record cannot be read, or the floor refuses it. What is printed of it is its line, with its number.
 #[derive(Clone, Copy, PartialEq, Eq, Debug)]
 pub enum Fault {
     Unread(job::Fault),

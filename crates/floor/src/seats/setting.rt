@@ -15,6 +15,7 @@ use row::{Cell, MOST_CELLS, Row, set};
 use table::place_of;
 
 // Sets a row that `set` does not refuse: fills the sites, and answers what they cost.
+// Here and below the measure comes from the floor and the row from a call, so that they are handed on side by side.
 pub(crate) fn set_ready<M: Measure>(measure: &M, row: Row, cells: &[Cell], sites: &mut [u32]) -> u64
     requires ready { Ready row cells.now }
     requires each { length sites.old ≡ length cells.now }
