@@ -1,15 +1,16 @@
 -- What is known once a row is chosen for a cell.
-use Rattle.std.proofs.Common.{◌≡◌, ℕ, Bool, true, false, cond, not, ◌||◌, eqb, leb, ltb, List, [], ◌∷◌, map, length, Some, None, Ok, Option, IsSome, sym, refl, ap, ◌∙◌, subst, arith}
+use Rattle.std.proofs.Common.{◌≡◌, ℕ, Bool, true, false, cond, ◌||◌, eqb, leb, List, [], ◌∷◌, map, Some, None, Ok, Option, IsSome, sym, refl, ap, ◌∙◌, subst, arith}
 use Rattle.std.proofs.lemmas.Bool.{or_left, or_right, cond_both, cond-true, cond-false, eq-eqb, both_ways}
 use Rattle.std.proofs.ByRecursion.{All-weaker}
 use Rattle.std.proofs.lemmas.Option.{same_Some}
 use Rattle.std.specs.List.{AllByRecursion}
 use Rattle.std.specs.Option.{option_map, unwrap_or, ok_or}
 use Rattle.measure.specs.Costs.{Fair}
-use Rattle.row.specs.Records.{check, then, cell_fault}
+use Rattle.row.specs.Records.{check, then}
 use Rattle.row.specs.Sites.{row_sites}
 use Rattle.row.specs.Stack.{Ready}
 use Rattle.row.specs.Task.{changed}
+use Rattle.row.proofs.Accepted.{both}
 use Rattle.row.specs.declared.Cell.{Cell}
 use Rattle.row.specs.declared.Row.{Row}
 use Rattle.row.specs.declared.Spot.{Spot}
@@ -20,7 +21,7 @@ use Rattle.floor.specs.Formed.{formed}
 use Rattle.floor.specs.Refusals.{any, has_sites, stands, cell_refusal, place_refusal}
 use Rattle.floor.specs.Seats.{seat_ahead, cells_on, site_of, new_seat, joined, resited}
 use Rattle.floor.specs.declared.Refusal.{Refusal}
-use Rattle.floor.specs.declared.Refusal.TheVariants.{OutOfRange, NumberStands, CellsFull, NoRoom}
+use Rattle.floor.specs.declared.Refusal.TheVariants.{NoRoom}
 use Rattle.floor.specs.declared.Seat.{Seat}
 use Rattle.floor.specs.declared.choice.Choice.{Choice}
 use Rattle.floor.proofs.Joining.{placeable, fresh_each, seated_formed}
@@ -68,24 +69,16 @@ chosen_any f (first ∷ rows) seats cell row e =
     (λ no. chosen_any f rows seats cell row (sym (cond-false (has_sites seats cell first) (better (rise f seats cell) first (chosen f seats cell rows)) (chosen f seats cell rows) no) ∙ e))
 
 -- so the check of the rows refuses nothing where the others refuse nothing
-not_refused : (rows : List Row) (seats : List Seat) (cell : Cell) → cell_refusal seats cell ≡ None → any (has_sites seats cell) rows ≡ true → place_refusal rows seats cell ≡ None
-not_refused rows seats cell none sites = refuses (option_map OutOfRange (cell_fault cell)) (not (stands cell.number seats)) (ltb (length seats) 1024) (any (has_sites seats cell) rows) none sites
+pub not_refused : (rows : List Row) (seats : List Seat) (cell : Cell) → cell_refusal seats cell ≡ None → any (has_sites seats cell) rows ≡ true → place_refusal rows seats cell ≡ None
+not_refused rows seats cell none sites = refuses (cell_refusal seats cell) (any (has_sites seats cell) rows) none sites
   where
-    refuses : (fault : Option Refusal) (fresh few some : Bool) → then fault (check fresh NumberStands (check few CellsFull None)) ≡ None → some ≡ true → then fault (check fresh NumberStands (check few CellsFull (check some NoRoom None))) ≡ None
-    refuses (Some refusal) fresh few some e sites = e
-    refuses None false few some e sites = e
-    refuses None true false some e sites = e
-    refuses None true true some e sites = cond-true some None (Some NoRoom) sites
+    refuses : (others : Option Refusal) (some : Bool) → others ≡ None → some ≡ true → then others (check some NoRoom None) ≡ None
+    refuses None some e sites = cond-true some None (Some NoRoom) sites
+    refuses (Some refusal) some e sites = e
 
 -- and where nothing is refused, the checks that do not look at the rows refuse nothing
 pub free_cell : (rows : List Row) (seats : List Seat) (cell : Cell) → place_refusal rows seats cell ≡ None → cell_refusal seats cell ≡ None
-free_cell rows seats cell none = free (option_map OutOfRange (cell_fault cell)) (not (stands cell.number seats)) (ltb (length seats) 1024) (any (has_sites seats cell) rows) none
-  where
-    free : (fault : Option Refusal) (fresh few some : Bool) → then fault (check fresh NumberStands (check few CellsFull (check some NoRoom None))) ≡ None → then fault (check fresh NumberStands (check few CellsFull None)) ≡ None
-    free (Some refusal) fresh few some e = e
-    free None false few some e = e
-    free None true false some e = e
-    free None true true some e = refl
+free_cell rows seats cell none = (both (cell_refusal seats cell) (check (any (has_sites seats cell) rows) NoRoom None) none).0
 
 -- a seat that has joined is found by its number
 any_new : {X : Type 0} (ahead : X → X → Bool) (k : X) (test : X → Bool) (xs : List X) → test k ≡ true → any test (put_in ahead k xs) ≡ true

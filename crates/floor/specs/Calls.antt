@@ -4,7 +4,9 @@
 --   chosen                 the row of least rise among those that have sites; of equal ones the first in row order
 --   place_answer, seats_after_place     what placing answers, and the seats then
 --   seat_of, spot          a standing cell's seat, and where it stands
-use Rattle.std.specs.Prelude.{ℕ, ◌+◌, ◌-◌, cond, List, [], ◌∷◌, Some, None, Ok, Err, Option, Result, ◌==◌, nat_le}
+--   where_answer           the answer of where a cell stands, and so of withdrawing it
+--   seats_after_withdraw   the seats once a cell is withdrawn
+use Rattle.std.specs.Prelude.{ℕ, ◌+◌, ◌-◌, not, cond, List, [], ◌∷◌, filter, Some, None, Ok, Err, Option, Result, ◌==◌, nat_eq, nat_le}
 use Rattle.std.specs.List.{insert}
 use Rattle.std.specs.Option.{option_map, unwrap_or, ok_or}
 use Rattle.row.specs.Records.{row_ahead}
@@ -92,3 +94,16 @@ seated_on price seats cell (Some row) = seated price seats cell row
 -- the seats once a cell is placed
 abbrev pub seats_after_place : (ℕ → ℕ → ℕ → ℕ) → List Row → List Seat → Cell → List Seat
 seats_after_place price rows seats cell = changed (place_refusal rows seats cell) (seated_on price seats cell (chosen price seats cell rows)) seats
+
+-- the seats without that of a number
+abbrev pub without : ℕ → List Seat → List Seat
+without number seats = filter (λ s. not (nat_eq s.cell.number number)) seats
+
+-- the seats once a seat, if there is one, is taken out by its number and its row set
+abbrev pub seats_less : (ℕ → ℕ → ℕ → ℕ) → List Seat → ℕ → Option Seat → List Seat
+seats_less price seats number None = seats
+seats_less price seats number (Some s) = settled price s.row (without number seats)
+
+-- the seats once a cell is withdrawn
+abbrev pub seats_after_withdraw : (ℕ → ℕ → ℕ → ℕ) → List Seat → ℕ → List Seat
+seats_after_withdraw price seats number = seats_less price seats number (seat_of number seats)

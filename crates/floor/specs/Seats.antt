@@ -1,6 +1,6 @@
 -- The seats of a floor: its standing cells, each with its row and its site.
 --   cells_by         the cells on a row, of what holds a cell and its row
---   cell_cost        what a cell costs on a row at a site
+--   cell_cost        what a cell costs on a row at a site; costs_by: what all cells cost, of what holds a cell, its row and its site
 --   on_row           whether a seat is on a row
 --   seat_ahead       the order of seats: by row order, then by wanted order
 --   seats_on         the seats of a row, in their order; cells_on, sites_on: their cells and their sites
@@ -28,6 +28,11 @@ cells_by cell_of row_of row xs = map cell_of (filter (λ x. same_row (row_of x) 
 -- what a cell costs on a row at a site: the site against the wanted site, and the line against the wanted line
 abbrev pub cell_cost : (ℕ → ℕ → ℕ → ℕ) → Cell → Row → ℕ → ℕ
 cell_cost price c row site = price c.wanted.site c.weight site + price c.wanted.line c.weight row.line
+
+-- what all cells cost, of what holds a cell, its row and its site
+abbrev pub costs_by : {X : Type 0} → (X → Cell) → (X → Row) → (X → ℕ) → (ℕ → ℕ → ℕ → ℕ) → List X → ℕ
+costs_by cell_of row_of site_of price [] = 0
+costs_by cell_of row_of site_of price (x ∷ xs) = cell_cost price (cell_of x) (row_of x) (site_of x) + costs_by cell_of row_of site_of price xs
 
 -- whether a seat is on a row
 abbrev pub on_row : Row → Seat → Bool
@@ -111,6 +116,4 @@ settled price row seats = resited row (row_sites price row (cells_on row seats))
 
 -- the cost of all seats: of the site against the wanted site, and of the line against the wanted line
 abbrev pub floor_cost : (ℕ → ℕ → ℕ → ℕ) → List Seat → ℕ
-floor_cost price [] = 0
-floor_cost price (s ∷ seats) =
-    (price s.cell.wanted.site s.cell.weight s.site + price s.cell.wanted.line s.cell.weight s.row.line) + floor_cost price seats
+floor_cost price = costs_by cell_of row_of site_of price
