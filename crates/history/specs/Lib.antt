@@ -1,0 +1,6 @@
+pub mod Events
+pub mod Histories
+pub mod Settings
+pub mod Law
+pub mod Slack
+pub mod Lives

@@ -1,0 +1,14 @@
+-- A floor's life: what came of any list of calls.
+--   Lawful price calls life     the events are those of the calls, in their order, and the floor obeys the law for them
+use Rattle.std.specs.Prelude.{◌≡◌, ℕ, List, map, reverse, vec_items}
+use Rattle.floor.specs.Calls.{where_answer}
+use Rattle.floor.specs.State.{seats_of}
+use Rattle.history.specs.Histories.{call_of}
+use Rattle.history.specs.Law.{Law}
+use Rattle.history.specs.declared.call.Call.{Call}
+use Rattle.history.specs.declared.life.Life.{Life}
+
+-- The events are those of the calls, and the floor obeys the law for them: `where_answer` is what its where_is answers.
+pub record Lawful {M : Type 0} (price : ℕ → ℕ → ℕ → ℕ) (calls : List Call) (life : Life M) : Type 0 where
+  pub made : map call_of (vec_items life.events) ≡ calls
+  pub law : Law price (reverse (vec_items life.events)) (where_answer (seats_of life.floor))
