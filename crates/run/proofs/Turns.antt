@@ -12,7 +12,7 @@ use Rattle.lines.specs.declared.ShortBuffer.{ShortBuffer}
 use Rattle.run.specs.State.{State}
 use Rattle.run.specs.Steps.{long, buffer_left, state_left, step_of, step_answer, step_state, step_buffer}
 use Rattle.run.specs.Texts.{end_text, run_text, turn_text}
-use Rattle.run.specs.Turns.{Said, ended_by, faulted, passed, record_said, rows_left, seats_left, turn, turn_by}
+use Rattle.run.specs.Turns.{Said, ended_by, faulted, passed, turn, turn_by}
 use Rattle.run.specs.declared.fault.Fault.TheVariants.{Unread}
 use Rattle.run.specs.declared.run.Step.{Step}
 

@@ -4,3 +4,4 @@ pub mod State
 pub mod Steps
 pub mod Texts
 pub mod Turns
+pub mod Jobs

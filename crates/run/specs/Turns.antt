@@ -2,20 +2,23 @@
 --   Said                     a line, and the run's fault if there is one
 --   name_in                  the name in a record, if it has one
 --   told name r              what is said of a record with this name that was carried out or not
---   record_said              what is said of a record, with the rows and seats before it
---   rows_left, seats_left    the rows and the seats after a record
+--   call_in                  the call that a record asks for
+--   event_in                 what came of it
+--   event_said               what an event says
 --   turn price s             what a step says and the state after it; none where the job has ended
 use Rattle.std.specs.Prelude.{ℕ, Bool, false, cond, List, Some, None, Ok, Err, Option, Result}
 use Rattle.std.specs.Option.{option_map}
-use Rattle.floor.specs.Calls.{rows_after, place_answer, seats_after_place}
-use Rattle.floor.specs.Refusals.{add_refusal}
 use Rattle.floor.specs.declared.Placing.{Placing}
 use Rattle.floor.specs.declared.Refusal.{Refusal}
 use Rattle.floor.specs.declared.Seat.{Seat}
+use Rattle.history.specs.Events.{event_of, rows_then, seats_then}
+use Rattle.history.specs.declared.call.Call.{Call}
+use Rattle.history.specs.declared.call.Call.TheVariants.{AddRow, Place, Try, Withdraw}
+use Rattle.history.specs.declared.call.Event.{Event}
+use Rattle.history.specs.declared.call.Event.TheVariants.{Added, Placed, Tried, Withdrawn}
 use Rattle.job.specs.Format.{Content}
 use Rattle.job.specs.Format.Content.{row, place, withdraw, try}
 use Rattle.job.specs.Reading.{next_answer, next_standing}
-use Rattle.job.specs.declared.record.Cause.TheVariants.{UnknownKind}
 use Rattle.job.specs.declared.record.Fault as unread
 use Rattle.lines.specs.Texts.{text, granted_text, seated_text}
 use Rattle.lines.specs.declared.Line.{Line}
@@ -50,19 +53,28 @@ abbrev pub told : Option (List ℕ) → Result Line Fault → Said
 told name (Ok line) = granted (text line)
 told name (Err fault) = faulted name fault
 
--- what the floor's answer to a row says
-abbrev pub row_said : ℕ → Option Refusal → Said
-row_said index None = granted (granted_text index None)
-row_said index (Some refusal) = faulted None (Refused (record { index = index; refusal = refusal }))
+-- the call that a record asks for
+abbrev pub call_in : Content → Call
+call_in (row r) = AddRow r
+call_in (place c) = Place c.cell
+call_in (withdraw number) = Withdraw number
+call_in (try c) = Try c.cell
 
--- what the floor's answer to a cell with this name says
-abbrev pub cell_said : ℕ → Option (List ℕ) → Result Placing Refusal → Said
-cell_said index name (Ok placing) = granted (seated_text index placing.spot.line placing.spot.site placing.rise name)
-cell_said index name (Err refusal) = faulted name (Refused (record { index = index; refusal = refusal }))
+-- what an answer says of a record with this index and name, by the line of what was granted
+abbrev pub answer_said : {X : Type 0} → ℕ → Option (List ℕ) → (X → List ℕ) → Result X Refusal → Said
+answer_said index name line (Ok value) = granted (line value)
+answer_said index name line (Err refusal) = faulted name (Refused (record { index = index; refusal = refusal }))
 
--- what is said of a record of a kind that is not carried out: its first byte, at this place, stands against it
-abbrev pub unknown : ℕ → ℕ → Said
-unknown index at = faulted None (Unread (record { cause = UnknownKind; index = index; place = at }))
+-- the line of a granted placing or try
+abbrev pub placing_text : ℕ → Option (List ℕ) → Placing → List ℕ
+placing_text index name placing = seated_text index placing.spot.line placing.spot.site placing.rise name
+
+-- what an event says of a record with this index and name
+abbrev pub event_said : ℕ → Option (List ℕ) → Event → Said
+event_said index name (Added row answer) = answer_said index name (λ _. granted_text index name) answer
+event_said index name (Placed cell answer) = answer_said index name (placing_text index name) answer
+event_said index name (Tried cell answer) = answer_said index name (placing_text index name) answer
+event_said index name (Withdrawn number answer) = answer_said index name (λ _. granted_text index name) answer
 
 -- whether the job counts as ended after what was said
 abbrev pub ended_by : Option Fault → Bool
@@ -73,32 +85,15 @@ ended_by (Some fault) = ends fault
 abbrev pub passed : State → Said → List Row → List Seat → Said × State
 passed s said rows seats = (said, record { reader = next_standing s.reader; rows = rows; seats = seats; ended = ended_by said.fault })
 
--- the rows after a record
-abbrev pub rows_left : List Row → Content → List Row
-rows_left rows (row r) = rows_after rows r
-rows_left rows (place c) = rows
-rows_left rows (withdraw number) = rows
-rows_left rows (try c) = rows
-
 module _ (price : ℕ → ℕ → ℕ → ℕ) where
-  -- the seats after a record
-  abbrev pub seats_left : List Row → List Seat → Content → List Seat
-  seats_left rows seats (row r) = seats
-  seats_left rows seats (place c) = seats_after_place price rows seats c.cell
-  seats_left rows seats (withdraw number) = seats
-  seats_left rows seats (try c) = seats
+  -- what came of a record's call, with the rows and seats before it
+  abbrev pub event_in : State → Content → Event
+  event_in s c = event_of price s.rows s.seats (call_in c)
 
-  -- what is said of a record with this index and place
-  abbrev pub record_said : List Row → List Seat → ℕ → ℕ → Content → Said
-  record_said rows seats index at (row r) = row_said index (add_refusal rows r)
-  record_said rows seats index at (place c) = cell_said index (name_in (place c)) (place_answer price rows seats c.cell)
-  record_said rows seats index at (withdraw number) = unknown index at
-  record_said rows seats index at (try c) = unknown index at
-
-  -- a step, by what the reader answers: a record is carried out, and one that cannot be read ends the job
+  -- a step, by what the reader answers: a record's call is made, and a record that cannot be read ends the job
   abbrev pub turn_by : State → Result (Option Content) unread.Fault → Option (Said × State)
   turn_by s (Ok None) = None
-  turn_by s (Ok (Some c)) = Some (passed s (record_said s.rows s.seats s.reader.index s.reader.place c) (rows_left s.rows c) (seats_left s.rows s.seats c))
+  turn_by s (Ok (Some c)) = Some (passed s (event_said s.reader.index (name_in c) (event_in s c)) (rows_then s.rows (call_in c)) (seats_then price s.rows s.seats (call_in c)))
   turn_by s (Err fault) = Some (passed s (faulted None (Unread fault)) s.rows s.seats)
 
   -- what a step says and the state after it; none where the job has ended

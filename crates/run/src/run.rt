@@ -58,6 +58,13 @@ impl<'a, M: Measure> Run<'a, M> {
             ended: false,
         }
     }
+
+    // The floor, as the run leaves it.
+    pub(crate) fn into_floor(self) -> Floor<M>
+        ensures { result ≡ self.floor }
+    {
+        self.floor
+    }
 }
 
 impl<'a, M: Measure + Drop> Run<'a, M> {
@@ -96,11 +103,10 @@ impl<'a, M: Measure + Drop> Run<'a, M> {
             return None;
         }
         let index = self.reader.index();
-        let place = self.reader.place();
         match self.reader.next_record() {
             Ok(None) => None,
             Ok(Some(found)) => {
-                let carried = self.carry_out_record(index, place, found);
+                let carried = self.carry_out_record(index, found);
                 Some(self.conclude(record_name(found), carried))
             }
             Err(fault) => Some(self.conclude(None, Err(fault.into()))),

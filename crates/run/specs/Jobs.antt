@@ -1,0 +1,70 @@
+-- What the records of a job ask of the floor, and the law of the floor at the job's end.
+--   record_calls       the calls that the records ask for, from where a reader stands, of at most so many records
+--   run_events         what came of them, from a state on
+--   run_end            the state at the end
+--   JobLaw             the floor at the end obeys the law for the calls that the job's records ask for
+--   AtEnd              the floor that is left of a job: none where the job is refused, and else one that obeys the law
+use Rattle.std.specs.Prelude.{◌≡◌, ℕ, zero, suc, ◌+◌, cond, List, [], ◌∷◌, map, reverse, length, Some, None, Ok, Err, Option, Result, MatchResult}
+use Rattle.floor.specs.Calls.{where_answer}
+use Rattle.floor.specs.State.{measure_of, seats_of}
+use Rattle.floor.specs.declared.floor.Floor.{Floor}
+use Rattle.history.specs.Histories.{call_of}
+use Rattle.history.specs.Law.{Law}
+use Rattle.history.specs.declared.call.Call.{Call}
+use Rattle.history.specs.declared.call.Event.{Event}
+use Rattle.job.specs.Format.{Content}
+use Rattle.job.specs.Opening.{Opened, open_answer}
+use Rattle.job.specs.Reading.{Standing, at_start, next_answer, next_standing}
+use Rattle.job.specs.declared.record.Fault as unread
+use Rattle.measure.specs.Names.{named_price}
+use Rattle.measure.specs.declared.name.MeasureName.{MeasureName}
+use Rattle.run.specs.State.{State, started}
+use Rattle.run.specs.Steps.{state_left}
+use Rattle.run.specs.Turns.{call_in, event_in, turn}
+
+-- a record's call and those of the records after it; none at the job's end, and none from a record on that cannot be read
+abbrev pub calls_by : List Call → Result (Option Content) unread.Fault → List Call
+calls_by later (Ok None) = []
+calls_by later (Ok (Some c)) = call_in c ∷ later
+calls_by later (Err fault) = []
+
+-- the calls that the records ask for, from where a reader stands, of at most so many records
+abbrev pub record_calls : ℕ → Standing → List Call
+record_calls zero reader = []
+record_calls (suc most) reader = calls_by (record_calls most (next_standing reader)) (next_answer reader)
+
+module _ (price : ℕ → ℕ → ℕ → ℕ) where
+  -- what came of a record's call, and of those after it
+  abbrev pub events_by : State → List Event → Result (Option Content) unread.Fault → List Event
+  events_by s later (Ok None) = []
+  events_by s later (Ok (Some c)) = event_in price s c ∷ later
+  events_by s later (Err fault) = []
+
+  -- what came of the calls of the records from a state on, of at most so many
+  abbrev pub run_events : ℕ → State → List Event
+  run_events zero s = []
+  run_events (suc most) s = cond s.ended [] (events_by s (run_events most (state_left s (turn price s))) (next_answer s.reader))
+
+  -- the state at the end, after at most so many steps
+  abbrev pub run_end : ℕ → State → State
+  run_end zero s = s
+  run_end (suc most) s = run_end most (state_left s (turn price s))
+
+-- what came of the calls of an open job's records, on a floor that began empty
+abbrev pub job_events : Opened → List Event
+job_events job = run_events (named_price job.measure) (length job.bytes + 1) (started job.bytes [] [])
+
+-- the calls that an open job's records ask for
+abbrev pub job_calls : Opened → List Call
+job_calls job = record_calls (length job.bytes + 1) (at_start job.bytes)
+
+-- The events, whose lines are the job's text, are those of the calls that the job's records ask for; and the floor, under the job's measure, obeys the law for them.
+pub record JobLaw (job : Opened) (floor : Floor MeasureName) : Type 0 where
+  pub measure : measure_of floor ≡ job.measure
+  pub made : map call_of (job_events job) ≡ job_calls job
+  pub law : Law (named_price job.measure) (reverse (job_events job)) (where_answer (seats_of floor))
+
+-- the floor that is left of a job: none where the job is refused at its opening, and else one that obeys the law
+abbrev pub AtEnd : List ℕ → Option (Floor MeasureName) → Type 0
+AtEnd bytes None = MatchResult (open_answer bytes) (λ job. ⊥) (λ fault. Unit {0})
+AtEnd bytes (Some floor) = MatchResult (open_answer bytes) (λ job. JobLaw job floor) (λ fault. ⊥)
