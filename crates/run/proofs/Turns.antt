@@ -3,6 +3,7 @@ use Rattle.std.proofs.Common.{◌≡◌, ℕ, zero, suc, ◌-◌, ◌<◌, ◌�
 use Rattle.std.proofs.lemmas.Bool.{le-leb}
 use Rattle.std.proofs.Math.Seq.{take-append_seam}
 use Rattle.std.specs.Option.{option_map}
+use Rattle.history.specs.Events.{rows_then, seats_then}
 use Rattle.job.proofs.Advance.{record_moves}
 use Rattle.job.specs.Format.{Content}
 use Rattle.job.specs.Reading.{next_answer, next_standing}
@@ -12,7 +13,7 @@ use Rattle.lines.specs.declared.ShortBuffer.{ShortBuffer}
 use Rattle.run.specs.State.{State}
 use Rattle.run.specs.Steps.{long, buffer_left, state_left, step_of, step_answer, step_state, step_buffer}
 use Rattle.run.specs.Texts.{end_text, run_text, turn_text}
-use Rattle.run.specs.Turns.{Said, ended_by, faulted, passed, turn, turn_by}
+use Rattle.run.specs.Turns.{Said, ended_by, faulted, passed, name_in, call_in, event_in, event_said, turn, turn_by}
 use Rattle.run.specs.declared.fault.Fault.TheVariants.{Unread}
 use Rattle.run.specs.declared.run.Step.{Step}
 
@@ -33,8 +34,8 @@ module _ (price : ℕ → ℕ → ℕ → ℕ) (s : State) where
   left_by t (Ok None) e is = absurd (cc)
   left_by t (Ok (Some c)) e is =
       let P : Said × State → Type 0 = λ t. left t.1 < suc (length s.reader.job - s.reader.place) in
-      let said = record_said price s.rows s.seats s.reader.index s.reader.place c in
-      let that : passed s said (rows_left s.rows c) (seats_left price s.rows s.seats c) ≡ t = cc in
+      let said = event_said s.reader.index (name_in c) (event_in price s c) in
+      let that : passed s said (rows_then s.rows (call_in c)) (seats_then price s.rows s.seats (call_in c)) ≡ t = cc in
       let moves = record_moves s.reader c e in
       let long : length (next_standing s.reader).job ≡ length s.reader.job = ap length moves.same in
       subst P that (none_or_less (ended_by said.fault) _ _ (omega (arith, moves.forward, moves.within)))

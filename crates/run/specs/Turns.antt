@@ -71,7 +71,7 @@ placing_text index name placing = seated_text index placing.spot.line placing.sp
 
 -- what an event says of a record with this index and name
 abbrev pub event_said : ℕ → Option (List ℕ) → Event → Said
-event_said index name (Added row answer) = answer_said index name (λ _. granted_text index name) answer
+event_said index name (Added added answer) = answer_said index name (λ _. granted_text index name) answer
 event_said index name (Placed cell answer) = answer_said index name (placing_text index name) answer
 event_said index name (Tried cell answer) = answer_said index name (placing_text index name) answer
 event_said index name (Withdrawn number answer) = answer_said index name (λ _. granted_text index name) answer

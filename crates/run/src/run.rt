@@ -61,7 +61,7 @@ impl<'a, M: Measure> Run<'a, M> {
 
     // The floor, as the run leaves it.
     pub(crate) fn into_floor(self) -> Floor<M>
-        ensures { result ≡ self.floor }
+        ensures { result ≡ self.entry.floor }
     {
         self.floor
     }
