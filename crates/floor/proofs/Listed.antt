@@ -122,7 +122,7 @@ pub record Sited (seats : List Seat) : Type 0 where
   pub clear : Pairs After seats
 
 -- the same of any two seats of a floor
-abbrev Clear : Seat → Seat → Type 0
+abbrev pub Clear : Seat → Seat → Type 0
 Clear s t = on_row t.row s ≡ true → After s t
 
 -- the tests of one seat
@@ -195,12 +195,12 @@ module _ (rows : List Row) (seats : List Seat) (e : formed rows seats ≡ true) 
   }
 
 -- what holds of the seats of each row holds of each seat ..
-each_own : (P : Seat → Type 0) (seats : List Seat) → ((r : Row) → AllByRecursion (λ s. on_row r s ≡ true → P s) seats) → AllByRecursion P seats
+pub each_own : (P : Seat → Type 0) (seats : List Seat) → ((r : Row) → AllByRecursion (λ s. on_row r s ≡ true → P s) seats) → AllByRecursion P seats
 each_own P [] h = tt
 each_own P (s ∷ seats) h = ((h s.row).0 (same_refl s.row), each_own P seats (λ r. (h r).1))
 
 -- .. and so of any two
-pairs_own : (seats : List Seat) → ((r : Row) → Pairs After (seats_on r seats)) → Pairs Clear seats
+pub pairs_own : (seats : List Seat) → ((r : Row) → Pairs After (seats_on r seats)) → Pairs Clear seats
 pairs_own [] h = tt
 pairs_own (s ∷ seats) h = (
   All-weaker (λ t. on_row s.row t ≡ true → After s t) (Clear s) (λ t after on. after (same_sym s.row t.row on)) seats
