@@ -1,1 +1,3 @@
+pub mod ByRows
 pub mod Held
+pub mod Tables
