@@ -1,1 +1,5 @@
+pub mod ByRows
 pub mod Held
+pub mod Seated
+pub mod Unique
+pub mod Tables
