@@ -3,3 +3,5 @@ pub mod Held
 pub mod Seated
 pub mod Unique
 pub mod Tables
+pub mod Lives
+pub mod Steps
