@@ -1,5 +1,5 @@
 -- A step of a run: what its answer says of the turn that it took, and that it brings the job's end nearer.
-use Rattle.std.proofs.Common.{◌≡◌, ℕ, zero, suc, ◌-◌, ◌<◌, ◌≤◌, Bool, true, false, cond, List, ◌++◌, length, take, Some, None, Ok, Err, Option, Result, refl, sym, ap, subst, ◌∙◌, append_assoc, arith}
+use Rattle.std.proofs.Common.{◌≡◌, ℕ, zero, suc, ◌-◌, ◌<◌, ◌≤◌, Bool, true, false, cond, List, [], ◌++◌, length, take, Some, None, Ok, Err, Option, Result, refl, sym, ap, subst, ◌∙◌, append_assoc, arith}
 use Rattle.std.proofs.lemmas.Bool.{le-leb}
 use Rattle.std.proofs.Math.Seq.{take-append_seam}
 use Rattle.std.specs.Option.{option_map}
@@ -12,7 +12,7 @@ use Rattle.lines.specs.Writes.{short_buffer}
 use Rattle.lines.specs.declared.ShortBuffer.{ShortBuffer}
 use Rattle.run.specs.State.{State}
 use Rattle.run.specs.Steps.{long, buffer_left, state_left, step_of, step_answer, step_state, step_buffer}
-use Rattle.run.specs.Texts.{end_text, run_text, turn_text}
+use Rattle.run.specs.Texts.{run_end, steps_text, turn_text}
 use Rattle.run.specs.Turns.{Said, ended_by, faulted, passed, name_in, call_in, event_in, event_said, turn, turn_by}
 use Rattle.run.specs.declared.fault.Fault.TheVariants.{Unread}
 use Rattle.run.specs.declared.run.Step.{Step}
@@ -80,16 +80,17 @@ module _ (price : ℕ → ℕ → ℕ → ℕ) (s : State) where
       let by = none_by (long buffer) (turn price s) (le-leb 320 (length buffer) (omega arith)) answer in
       (by.0, goes ∙ by.1)
 
-  -- a step's line, and then what is said after it
-  pub next_turn : (most : ℕ) (t : Said × State) (before : List ℕ) → left s ≤ most → turn price s ≡ Some t → (fewer : ℕ) × (left t.1 ≤ fewer) × ((before ++ t.0.line) ++ run_text price fewer t.1 ≡ before ++ run_text price most s)
+  -- a step's line and what is said after it, and the end that the steps after it reach
+  pub next_turn : (most : ℕ) (t : Said × State) (before : List ℕ) → left s ≤ most → turn price s ≡ Some t → (fewer : ℕ) × (left t.1 ≤ fewer) × ((before ++ t.0.line) ++ steps_text price fewer t.1 ≡ before ++ steps_text price most s) × (run_end price fewer t.1 ≡ run_end price most s)
   next_turn zero t before enough is = absurd (omega (arith, turn_left t is))
   next_turn (suc fewer) t before enough is = (
     fewer,
     omega (arith, turn_left t is),
-    append_assoc before t.0.line (run_text price fewer t.1) ∙ ap (λ o. before ++ turn_text (end_text price s) (run_text price fewer) o) (sym is),
+    append_assoc before t.0.line (steps_text price fewer t.1) ∙ ap (λ o. before ++ turn_text (steps_text price fewer) o) (sym is),
+    ap (λ o. run_end price fewer (state_left s o)) (sym is),
   )
 
-  -- what is said at the job's end
-  pub last_turn : (most : ℕ) → turn price s ≡ None → run_text price most s ≡ end_text price s
-  last_turn zero is = refl
-  last_turn (suc fewer) is = ap (turn_text (end_text price s) (run_text price fewer)) is
+  -- at the job's end nothing more is said, and the state stays
+  pub last_turn : (most : ℕ) → turn price s ≡ None → (steps_text price most s ≡ []) × (run_end price most s ≡ s)
+  last_turn zero is = (refl, refl)
+  last_turn (suc fewer) is = (ap (turn_text (steps_text price fewer)) is, ap (λ o. run_end price fewer (state_left s o)) is ∙ (last_turn fewer is).1)

@@ -1,7 +1,6 @@
 -- What the records of a job ask of the floor, and the law of the floor at the job's end.
 --   record_calls       the calls that the records ask for, from where a reader stands, of at most so many records
 --   run_events         what came of them, from a state on
---   run_end            the state at the end
 --   JobLaw             the floor at the end obeys the law for the calls that the job's records ask for
 --   AtEnd              the floor that is left of a job: none where the job is refused, and else one that obeys the law
 use Rattle.std.specs.Prelude.{◌≡◌, ℕ, zero, suc, ◌+◌, cond, List, [], ◌∷◌, map, reverse, length, Some, None, Ok, Err, Option, Result, MatchResult}
@@ -20,6 +19,7 @@ use Rattle.measure.specs.Names.{named_price}
 use Rattle.measure.specs.declared.name.MeasureName.{MeasureName}
 use Rattle.run.specs.State.{State, started}
 use Rattle.run.specs.Steps.{state_left}
+use Rattle.run.specs.Texts.{enough}
 use Rattle.run.specs.Turns.{call_in, event_in, turn}
 
 -- a record's call and those of the records after it; none at the job's end, and none from a record on that cannot be read
@@ -45,18 +45,13 @@ module _ (price : ℕ → ℕ → ℕ → ℕ) where
   run_events zero s = []
   run_events (suc most) s = cond s.ended [] (events_by s (run_events most (state_left s (turn price s))) (next_answer s.reader))
 
-  -- the state at the end, after at most so many steps
-  abbrev pub run_end : ℕ → State → State
-  run_end zero s = s
-  run_end (suc most) s = run_end most (state_left s (turn price s))
-
 -- what came of the calls of an open job's records, on a floor that began empty
 abbrev pub job_events : Opened → List Event
-job_events job = run_events (named_price job.measure) (length job.bytes + 1) (started job.bytes [] [])
+job_events job = run_events (named_price job.measure) (enough job.bytes) (started job.bytes [] [])
 
 -- the calls that an open job's records ask for
 abbrev pub job_calls : Opened → List Call
-job_calls job = record_calls (length job.bytes + 1) (at_start job.bytes)
+job_calls job = record_calls (enough job.bytes) (at_start job.bytes)
 
 -- The events, whose lines are the job's text, are those of the calls that the job's records ask for; and the floor, under the job's measure, obeys the law for them.
 pub record JobLaw (job : Opened) (floor : Floor MeasureName) : Type 0 where

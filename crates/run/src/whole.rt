@@ -1,10 +1,11 @@
 // Carrying out a whole job: the lines of its records, of the cells that stand then, and of what they cost.
-ghost use Rattle.std.specs.Prelude.{◌≡◌, ◌≤◌, length};
+ghost use Rattle.std.specs.Prelude.{◌≡◌, ◌≤◌, true, length, is_ok, IfOk};
 ghost use Rattle.lines.specs.Texts.{name_of, text};
 ghost use Rattle.measure.specs.Names.{named_price};
 ghost use Rattle.run.specs.State.{measure_in, state};
 ghost use Rattle.run.specs.Steps.{costs_text};
-ghost use Rattle.run.specs.Texts.{Appends, Steps, cell_texts, job_text};
+ghost use Rattle.run.specs.Jobs.{AtEnd};
+ghost use Rattle.run.specs.Texts.{Appends, cell_texts, enough, job_text, run_end, steps_text};
 
 use crate::fault::Fault;
 use crate::run::Run;
@@ -16,7 +17,8 @@ use std::alloc::{AllocError, Global};
 
 // Carries out the records that are left, and adds a line for each.
 fn put_steps(out: &mut Vec<u8>, run: &mut Run<'_, MeasureName>) -> Result<(), AllocError>
-    ensures lines { Steps (named_price (measure_in run.old)) out.old (state run.old) result out.new (state run.new) }
+    ensures lines { Appends out.old result (steps_text (named_price (measure_in run.old)) (enough (state run.old).reader.job) (state run.old)) out.new }
+    ensures after { is_ok result ≡ true → state run.new ≡ run_end (named_price (measure_in run.old)) (enough (state run.old).reader.job) (state run.old) }
     ensures same { measure_in run.new ≡ measure_in run.old }
 {
     let mut buffer = [0; LEAST_BUFFER];
@@ -61,9 +63,10 @@ fn put_line(out: &mut Vec<u8>, line: Line<'_>) -> Result<(), AllocError>
 }
 
 // Carries out a whole job, and adds a line for each record, a line for each cell that stands then, and one for what they cost.
-// A job that cannot be opened gives only the line that says so.
-pub fn carry_out(heap: Global, out: &mut Vec<u8>, bytes: &[u8]) -> Result<(), AllocError>
-    ensures { Appends out.old result (job_text bytes.now) out.new }
+// A job that cannot be opened gives only the line that says so. Answers the floor that is left, which obeys the law, or none where the job cannot be opened.
+pub fn carry_out(heap: Global, out: &mut Vec<u8>, bytes: &[u8]) -> Result<Option<Floor<MeasureName>>, AllocError>
+    ensures lines { Appends out.old result (job_text bytes.now) out.new }
+    ensures law { IfOk result (AtEnd bytes.now) }
 {
     match Job::open(bytes) {
         Ok(job) => {
@@ -71,8 +74,12 @@ pub fn carry_out(heap: Global, out: &mut Vec<u8>, bytes: &[u8]) -> Result<(), Al
             let mut run = Run::new(&job, floor);
             put_steps(out, &mut run)?;
             put_cells(out, &run)?;
-            put_cost(out, &run)
+            put_cost(out, &run)?;
+            Ok(Some(run.into_floor()))
         }
-        Err(unread) => put_line(out, Fault::from(unread).line(None)),
+        Err(unread) => {
+            put_line(out, Fault::from(unread).line(None))?;
+            Ok(None)
+        }
     }
 }

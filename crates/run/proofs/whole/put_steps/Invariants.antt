@@ -2,7 +2,7 @@ use Rattle.std.proofs.Common.{◌≡◌, ℕ, ◌+◌, ◌≤◌, ◌++◌, leng
 use Rattle.measure.specs.Names.{named_price}
 use Rattle.run.proofs.Turns.{left}
 use Rattle.run.specs.State.{measure_in, state}
-use Rattle.run.specs.Texts.{run_text}
+use Rattle.run.specs.Texts.{enough, run_end, steps_text}
 use Rattle.run.proofs.whole.put_steps.Given as goal
 
 -- what is there and what is to come are all that is said
@@ -10,7 +10,8 @@ abbrev pub invariant-loop-step : goal.invariant-loop-step
 invariant-loop-step l =
     let price = named_price (measure_in l.initial.run) in
     (most : ℕ) × (left (state l.run) ≤ most)
-    × (vec_items l.out ++ run_text price most (state l.run) ≡ vec_items l.initial.out ++ run_text price (length (state l.initial.run).reader.job + 1) (state l.initial.run))
+    × (vec_items l.out ++ steps_text price most (state l.run) ≡ vec_items l.initial.out ++ steps_text price (enough (state l.initial.run).reader.job) (state l.initial.run))
+    × (run_end price most (state l.run) ≡ run_end price (enough (state l.initial.run).reader.job) (state l.initial.run))
     × (measure_in l.run ≡ measure_in l.initial.run)
     × (length l.buffer ≡ 320)
 
