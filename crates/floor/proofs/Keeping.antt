@@ -58,7 +58,7 @@ module _ (f : ℕ → ℕ → ℕ → ℕ) (fair : Fair f) (rows : List Row) (se
         set_same f r seats (seated f seats cell row)
         (resited_others row r other (row_sites f row (cells_on row (joined row cell seats))) (joined row cell seats) ∙ joined_others row cell seats r other) is
 
-    seated_settled : Settled f rows (seated f seats cell row)
+    pub seated_settled : Settled f rows (seated f seats cell row)
     seated_settled =
         all_standing (IsSet f seats) (IsSet f (seated f seats cell row)) rows
         (λ r there is.

@@ -108,7 +108,7 @@ seated_found f seats cell row =
     (any_cells test (resited row sites all) ∙ ap (any test) (resited_cells row sites all) ∙ sym (any_cells test all) ∙ own)
 
 -- what holds of the seats of a number holds of the one that is found
-found_has : (P : Seat → Type 0) (number : ℕ) (seats : List Seat) (s : Seat) → AllByRecursion (λ t. eqb t.cell.number number ≡ true → P t) seats → seat_of number seats ≡ Some s → P s
+pub found_has : (P : Seat → Type 0) (number : ℕ) (seats : List Seat) (s : Seat) → AllByRecursion (λ t. eqb t.cell.number number ≡ true → P t) seats → seat_of number seats ≡ Some s → P s
 found_has P number [] s all e = let never : ◌≡◌ {A = ℕ} 0 1 = cc in absurd (omega arith)
 found_has P number (t ∷ seats) s all e = by_test (eqb t.cell.number number) refl (found_has P number seats s all.1) e
   where
@@ -117,7 +117,7 @@ found_has P number (t ∷ seats) s all e = by_test (eqb t.cell.number number) re
     by_test false is rest h = rest h
 
 -- the seat that is found by the number of a new cell is on the row that took it
-seated_row : (f : ℕ → ℕ → ℕ → ℕ) (seats : List Seat) (cell : Cell) (row : Row) (s : Seat) → stands cell.number seats ≡ false → seat_of cell.number (seated f seats cell row) ≡ Some s → s.row ≡ row
+pub seated_row : (f : ℕ → ℕ → ℕ → ℕ) (seats : List Seat) (cell : Cell) (row : Row) (s : Seat) → stands cell.number seats ≡ false → seat_of cell.number (seated f seats cell row) ≡ Some s → s.row ≡ row
 seated_row f seats cell row s fresh found =
     let k : Seat = new_seat row cell in
     let all : List Seat = joined row cell seats in
