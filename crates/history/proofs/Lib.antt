@@ -3,3 +3,4 @@ pub mod Held
 pub mod Seated
 pub mod Unique
 pub mod Tables
+pub mod Grants
