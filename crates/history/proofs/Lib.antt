@@ -4,3 +4,4 @@ pub mod Seated
 pub mod Unique
 pub mod Tables
 pub mod Worked
+pub mod Grants
