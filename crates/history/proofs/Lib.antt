@@ -1,2 +1,4 @@
 pub mod Held
 pub mod Perms
+pub mod Decided
+pub mod Steps
