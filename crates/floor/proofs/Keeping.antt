@@ -34,7 +34,7 @@ abbrev pub IsSet : (ℕ → ℕ → ℕ → ℕ) → List Seat → Row → Type 
 IsSet f seats row = sites_on row seats ≡ row_sites f row (cells_on row seats)
 
 -- what holds of standing rows, and so of all
-all_standing : (P Q : Row → Type 0) (rows : List Row) → ((row : Row) → Standing rows row → P row → Q row) → AllByRecursion P rows → AllByRecursion Q rows
+pub all_standing : (P Q : Row → Type 0) (rows : List Row) → ((row : Row) → Standing rows row → P row → Q row) → AllByRecursion P rows → AllByRecursion Q rows
 all_standing P Q rows give all =
     All-from_get_or Q rows no_row (λ i within. give (get_or rows i no_row) (standing_at rows i no_row within) (All-get_or P rows i no_row within all))
 

@@ -37,7 +37,7 @@ row_is a b e =
     fields
 
 -- a row has its own fields
-is_itself : (a : Row) → is_row a a ≡ true
+pub is_itself : (a : Row) → is_row a a ≡ true
 is_itself a = and_from _ _ (eq-eqb a.line a.line refl) (and_from _ _ (eq-eqb a.left a.left refl) (eq-eqb a.right a.right refl))
 
 -- the row at a place stands
@@ -53,7 +53,7 @@ standing_all P (r ∷ rows) row all e =
     ⊎_elim (λ here. subst P (row_is row r here) all.0) (λ there. standing_all P rows row all.1 there) (or_cases (is_row row r) (any (is_row row) rows) e)
 
 -- rows of one line and one left share a site
-same_share : (a b : Row) → RangedRow a → RangedRow b → same_row a b ≡ true → share a b ≡ true
+pub same_share : (a b : Row) → RangedRow a → RangedRow b → same_row a b ≡ true → share a b ≡ true
 same_share a b ra rb e = let x = ra.some in let y = rb.some in grind arith
 
 -- sharing goes both ways
@@ -61,7 +61,7 @@ share_turn : (a b : Row) → share a b ≡ true → share b a ≡ true
 share_turn a b e = grind arith
 
 -- standing rows that share a site are one row
-apart_one : (rows : List Row) (a b : Row) → Pairs (λ c d. not (share c d) ≡ true) rows → share a b ≡ true → Standing rows a → Standing rows b → a ≡ b
+pub apart_one : (rows : List Row) (a b : Row) → Pairs (λ c d. not (share c d) ≡ true) rows → share a b ≡ true → Standing rows a → Standing rows b → a ≡ b
 apart_one [] a b apart shared ea eb = absurd (both_ways false refl ea)
 apart_one (r ∷ rows) a b apart shared ea eb =
     let Off : Row → Type 0 = λ y. not (share r y) ≡ true in
@@ -122,7 +122,7 @@ pub record Sited (seats : List Seat) : Type 0 where
   pub clear : Pairs After seats
 
 -- the same of any two seats of a floor
-abbrev Clear : Seat → Seat → Type 0
+abbrev pub Clear : Seat → Seat → Type 0
 Clear s t = on_row t.row s ≡ true → After s t
 
 -- the tests of one seat
@@ -195,12 +195,12 @@ module _ (rows : List Row) (seats : List Seat) (e : formed rows seats ≡ true) 
   }
 
 -- what holds of the seats of each row holds of each seat ..
-each_own : (P : Seat → Type 0) (seats : List Seat) → ((r : Row) → AllByRecursion (λ s. on_row r s ≡ true → P s) seats) → AllByRecursion P seats
+pub each_own : (P : Seat → Type 0) (seats : List Seat) → ((r : Row) → AllByRecursion (λ s. on_row r s ≡ true → P s) seats) → AllByRecursion P seats
 each_own P [] h = tt
 each_own P (s ∷ seats) h = ((h s.row).0 (same_refl s.row), each_own P seats (λ r. (h r).1))
 
 -- .. and so of any two
-pairs_own : (seats : List Seat) → ((r : Row) → Pairs After (seats_on r seats)) → Pairs Clear seats
+pub pairs_own : (seats : List Seat) → ((r : Row) → Pairs After (seats_on r seats)) → Pairs Clear seats
 pairs_own [] h = tt
 pairs_own (s ∷ seats) h = (
   All-weaker (λ t. on_row s.row t ≡ true → After s t) (Clear s) (λ t after on. after (same_sym s.row t.row on)) seats

@@ -1,4 +1,8 @@
+pub mod ByRows
+pub mod Decided
 pub mod Held
 pub mod Perms
-pub mod Decided
+pub mod Seated
 pub mod Steps
+pub mod Tables
+pub mod Unique

@@ -28,14 +28,14 @@ all_placed P (c ∷ cs) [] ps = tt
 all_placed P (c ∷ cs) (y ∷ ys) ps = (ps.0, all_placed P cs ys ps.1)
 
 -- a cell is wide where it passed its checks
-wide : (c : Cell) → Passes c → 1 ≤ c.width
+pub wide : (c : Cell) → Passes c → 1 ≤ c.width
 wide c passes = (ranged c passes).some_width
 
 -- of two cells, what a chain says of them: the second starts at or after the end of the first
-clear_after : (p q : Placed) → p.site + p.cell.width ≤ q.site → Clear p q
+pub clear_after : (p q : Placed) → p.site + p.cell.width ≤ q.site → Clear p q
 clear_after p q h s on_p on_q = omega arith
 
-rising_after : (p q : Placed) → 1 ≤ p.cell.width → p.site + p.cell.width ≤ q.site → before p.cell q.cell ≡ true → Rising p q
+pub rising_after : (p q : Placed) → 1 ≤ p.cell.width → p.site + p.cell.width ≤ q.site → before p.cell q.cell ≡ true → Rising p q
 rising_after p q some h first = (λ _. omega arith, λ second. absurd (before_once p.cell q.cell first second))
 
 -- and back: two cells that share no site and rise
