@@ -67,7 +67,7 @@ module _ (f : ℕ → ℕ → ℕ → ℕ) (fair : Fair f) (rows : List Row) (be
       set
 
 module _ (f : ℕ → ℕ → ℕ → ℕ) (fair : Fair f) (rows : List Row) (seats : List Seat) (well : formed rows seats ≡ true) (set : Settled f rows seats) where
-  seated_settled : (cell : Cell) → place_refusal rows seats cell ≡ None → (row : Row) → Standing rows row → has_sites seats cell row ≡ true → Settled f rows (seated f seats cell row)
+  pub seated_settled : (cell : Cell) → place_refusal rows seats cell ≡ None → (row : Row) → Standing rows row → has_sites seats cell row ≡ true → Settled f rows (seated f seats cell row)
   seated_settled cell none row stands fits =
       let can = placeable seats cell (free_cell rows seats cell none) in
       let own = ready_fitting row (cells_on row (joined row cell seats)) (ready_standing rows seats well cell can row stands fits) in

@@ -117,7 +117,7 @@ found_has P number (t ∷ seats) s all e = by_test (eqb t.cell.number number) re
     by_test false is rest h = rest h
 
 -- the seat that is found by the number of a new cell is on the row that took it
-seated_row : (f : ℕ → ℕ → ℕ → ℕ) (seats : List Seat) (cell : Cell) (row : Row) (s : Seat) → stands cell.number seats ≡ false → seat_of cell.number (seated f seats cell row) ≡ Some s → s.row ≡ row
+pub seated_row : (f : ℕ → ℕ → ℕ → ℕ) (seats : List Seat) (cell : Cell) (row : Row) (s : Seat) → stands cell.number seats ≡ false → seat_of cell.number (seated f seats cell row) ≡ Some s → s.row ≡ row
 seated_row f seats cell row s fresh found =
     let k : Seat = new_seat row cell in
     let all : List Seat = joined row cell seats in

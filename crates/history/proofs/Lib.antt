@@ -1,7 +1,11 @@
 pub mod ByRows
+pub mod Decided
 pub mod Held
+pub mod Perms
 pub mod Seated
-pub mod Unique
+pub mod Steps
 pub mod Tables
 pub mod Lives
-pub mod Steps
+pub mod Worked
+pub mod Grants
+pub mod Unique
