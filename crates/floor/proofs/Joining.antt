@@ -11,7 +11,7 @@ use Rattle.row.specs.Records.{check, cell_fault, before, row_ahead, widths}
 use Rattle.row.specs.Stack.{Passes, Ready}
 use Rattle.row.specs.declared.Cell.{Cell}
 use Rattle.row.specs.declared.Row.{Row}
-use Rattle.row.proofs.Accepted.{both, unmapped}
+use Rattle.row.proofs.Accepted.{both, unmapped, Fitting, ready_fitting}
 use Rattle.row.proofs.Ranges.{passed, ranged_row}
 use Rattle.table.specs.Order.{Ordered, rank_of}
 use Rattle.table.proofs.Inserted.{Pairs, put_all, put_ordered, put_pairs, inserted_is}
@@ -19,14 +19,14 @@ use Rattle.floor.specs.Calls.{seated}
 use Rattle.floor.specs.Formed.{formed}
 use Rattle.floor.specs.Refusals.{stands, has_sites, cell_refusal}
 use Rattle.floor.specs.Rows.{same_row}
-use Rattle.floor.specs.Seats.{on_row, seat_ahead, seats_on, cells_on, new_seat, joined, Sited as Placed}
+use Rattle.floor.specs.Seats.{on_row, seat_ahead, seats_on, cells_on, new_seat, joined, settled, Sited as Placed}
 use Rattle.floor.specs.declared.Refusal.TheVariants.{OutOfRange, NumberStands, CellsFull}
 use Rattle.floor.specs.declared.Seat.{Seat}
 use Rattle.floor.proofs.Kept.{all_with, kept_parts, kept_more, kept_same}
 use Rattle.floor.proofs.Listed.{Standing, standing_passes, Differ, Listed, Inside, After, Sited, formed_listed, formed_sited}
 use Rattle.floor.proofs.Orders.{same_refl, same_sym, row_total, seat_chain}
 use Rattle.floor.proofs.Resited.{own_row}
-use Rattle.floor.proofs.Settling.{row_accepts, settled_formed}
+use Rattle.floor.proofs.Settling.{row_accepts, row_fitting, settled_formed}
 use Rattle.floor.proofs.Tests.{none_any}
 
 -- of two cells with two numbers, one is before the other
@@ -147,7 +147,7 @@ module _ (row : Row) (cell : Cell) (seats : List Seat) where
 pub seated_formed : (price : ℕ → ℕ → ℕ → ℕ) → Fair price → (rows : List Row) (seats : List Seat) (cell : Cell) (row : Row) → formed rows seats ≡ true → Placeable seats cell → Standing rows row → has_sites seats cell row ≡ true → formed rows (seated price seats cell row) ≡ true
 seated_formed price fair rows seats cell row well can standing sites =
     let listed = formed_listed rows seats well in
-    settled_formed price fair row (joined row cell seats) (joined_ready row cell seats rows listed standing can sites) rows (joined_listed row cell seats rows listed standing can) standing
+    settled_formed price fair row (joined row cell seats) (ready_fitting row (cells_on row (joined row cell seats)) (joined_ready row cell seats rows listed standing can sites)) rows (joined_listed row cell seats rows listed standing can) standing
     (λ r other. subst Sited (sym (joined_others row cell seats r other)) (formed_sited rows seats well r))
 
 -- seats one behind the other, from lo on, cover no more than what is there
@@ -172,7 +172,15 @@ row_fits rows seats row well standing =
     (All-weaker (λ s. (row.left ≤ s.site) × (s.site + s.cell.width ≤ row.right)) (λ s. s.site + s.cell.width ≤ row.right) (λ s h. h.1) (seats_on row seats) here)
     sited.clear
 
--- so `set` accepts them
+-- so they fit it, and setting it leaves the floor well formed
+pub standing_fitting : (rows : List Row) (seats : List Seat) (row : Row) → formed rows seats ≡ true → Standing rows row → Fitting row (cells_on row seats)
+standing_fitting rows seats row well standing = row_fitting rows row seats (formed_listed rows seats well) standing (row_fits rows seats row well standing)
+
+pub set_formed : (price : ℕ → ℕ → ℕ → ℕ) → Fair price → (rows : List Row) (seats : List Seat) (row : Row) → formed rows seats ≡ true → Standing rows row → formed rows (settled price row seats) ≡ true
+set_formed price fair rows seats row well standing =
+    settled_formed price fair row seats (standing_fitting rows seats row well standing) rows (formed_listed rows seats well) standing (λ r other. formed_sited rows seats well r)
+
+-- and `set` accepts them
 pub row_ready : (rows : List Row) (seats : List Seat) (row : Row) → formed rows seats ≡ true → Standing rows row → length seats ≤ 1024 → Ready row (cells_on row seats)
 row_ready rows seats row well standing few =
     let fits = row_fits rows seats row well standing in

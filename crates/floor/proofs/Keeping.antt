@@ -9,13 +9,14 @@ use Rattle.row.specs.Sites.{row_sites}
 use Rattle.row.specs.declared.Cell.{Cell}
 use Rattle.row.specs.declared.Row.{Row}
 use Rattle.row.specs.Task.{changed}
+use Rattle.row.proofs.Accepted.{Fitting, ready_fitting}
 use Rattle.row.proofs.Ranges.{RangedRow, ranged_row}
 use Rattle.table.proofs.Inserted.{put_all, inserted_is}
 use Rattle.floor.specs.Calls.{chosen, seated, seated_on, seats_after_place, with_row, rows_after}
-use Rattle.floor.specs.Formed.{formed}
+use Rattle.floor.specs.Formed.{rows_formed, formed}
 use Rattle.floor.specs.Refusals.{has_sites, add_refusal, place_refusal}
 use Rattle.floor.specs.Rows.{same_row, share}
-use Rattle.floor.specs.Seats.{on_row, seats_on, cells_on, sites_on, joined}
+use Rattle.floor.specs.Seats.{on_row, seats_on, cells_on, sites_on, joined, settled}
 use Rattle.floor.specs.Settled.{Settled}
 use Rattle.floor.specs.declared.Refusal.{Refusal}
 use Rattle.floor.specs.declared.Seat.{Seat}
@@ -43,7 +44,36 @@ set_same : (f : ℕ → ℕ → ℕ → ℕ) (row : Row) (before after : List Se
 set_same f row before after same is =
     ap (map (λ s. s.site)) same ∙ (is ∙ sym (ap (λ l. row_sites f row (map (λ s. s.cell) l)) same))
 
+-- a standing row is set, and the other rows have the seats that they had: a floor that was set is set then
+module _ (f : ℕ → ℕ → ℕ → ℕ) (fair : Fair f) (rows : List Row) (before after : List Seat) (row : Row) (fits : Fitting row (cells_on row after)) (others : (r : Row) → same_row r row ≡ false → seats_on r after ≡ seats_on r before) where
+  -- the row is set
+  own_set : IsSet f (settled f row after) row
+  own_set =
+      let xs = row_sites f row (cells_on row after) in
+      resited_sites_on row xs after (sites_long f fair row after fits) ∙ sym (ap (row_sites f row) (resited_cells_on row xs after))
+
+  -- another is as it was
+  other_set : (r : Row) → same_row r row ≡ false → IsSet f before r → IsSet f (settled f row after) r
+  other_set r other is = set_same f r before (settled f row after) (resited_others row r other (row_sites f row (cells_on row after)) after ∙ others r other) is
+
+  pub row_settled : rows_formed rows ≡ true → Standing rows row → Settled f rows before → Settled f rows (settled f row after)
+  row_settled well stands set =
+      all_standing (IsSet f before) (IsSet f (settled f row after)) rows
+      (λ r there is.
+      ⊎_elim
+      (λ same. subst (IsSet f (settled f row after)) (sym (standing_one rows well r row there stands same)) own_set)
+      (λ other. other_set r other is)
+      (cases_Bool (same_row r row)))
+      set
+
 module _ (f : ℕ → ℕ → ℕ → ℕ) (fair : Fair f) (rows : List Row) (seats : List Seat) (well : formed rows seats ≡ true) (set : Settled f rows seats) where
+<<<<<<< HEAD
+  seated_settled : (cell : Cell) → place_refusal rows seats cell ≡ None → (row : Row) → Standing rows row → has_sites seats cell row ≡ true → Settled f rows (seated f seats cell row)
+  seated_settled cell none row stands fits =
+      let can = placeable seats cell (free_cell rows seats cell none) in
+      let own = ready_fitting row (cells_on row (joined row cell seats)) (ready_standing rows seats well cell can row stands fits) in
+      row_settled f fair rows seats (joined row cell seats) row own (joined_others row cell seats) (formed_listed rows seats well).well stands set
+=======
   module _ (cell : Cell) (none : place_refusal rows seats cell ≡ None) (row : Row) (stands : Standing rows row) (fits : has_sites seats cell row ≡ true) where
     -- the row that took the cell is set
     own_set : IsSet f (seated f seats cell row) row
@@ -58,7 +88,7 @@ module _ (f : ℕ → ℕ → ℕ → ℕ) (fair : Fair f) (rows : List Row) (se
         set_same f r seats (seated f seats cell row)
         (resited_others row r other (row_sites f row (cells_on row (joined row cell seats))) (joined row cell seats) ∙ joined_others row cell seats r other) is
 
-    seated_settled : Settled f rows (seated f seats cell row)
+    pub seated_settled : Settled f rows (seated f seats cell row)
     seated_settled =
         all_standing (IsSet f seats) (IsSet f (seated f seats cell row)) rows
         (λ r there is.
@@ -67,6 +97,7 @@ module _ (f : ℕ → ℕ → ℕ → ℕ) (fair : Fair f) (rows : List Row) (se
         (λ other. other_set r other is)
         (cases_Bool (same_row r row)))
         set
+>>>>>>> f3a4db7d9d2664235226b54b87c7aa626ce791c7
 
   on_settled : (cell : Cell) → place_refusal rows seats cell ≡ None → (o : Option Row) → chosen f seats cell rows ≡ o → Settled f rows (seated_on f seats cell o)
   on_settled cell none None is = set

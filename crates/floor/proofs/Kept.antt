@@ -4,9 +4,11 @@ use mathlib.Core.Path.{fun_ext}
 use Rattle.std.proofs.lemmas.List.Elements.{filter-append}
 use Rattle.std.proofs.ByRecursion.{All-weaker, all_kept_by}
 use Rattle.std.proofs.lemmas.List.{take-append-drop}
-use Rattle.std.proofs.lemmas.Bool.{cond-true, cond-false, cond_both}
+use Rattle.std.proofs.lemmas.Bool.{cond-true, cond-false, cond_both, false_from_ne_true, both_ways}
 use Rattle.std.specs.List.{insert, AllByRecursion}
+use Rattle.table.specs.Order.{Ordered}
 use Rattle.table.proofs.Inserted.{Pairs}
+use Rattle.floor.proofs.Tests.{pairs_ordered, ordered_pairs}
 
 -- two facts of each give a third
 pub all_with : {X : Type 0} (P Q S : X → Type 0) → ((x : X) → P x → Q x → S x) → (xs : List X) → AllByRecursion P xs → AllByRecursion Q xs → AllByRecursion S xs
@@ -64,9 +66,21 @@ module _ {X : Type 0} (p : X → Bool) where
   pairs_kept R (x ∷ xs) h =
       cond_both (p x) (x ∷ filter p xs) (filter p xs) (Pairs R) (λ yes. (all_kept_by p (R x) xs h.0, pairs_kept R xs h.1)) (λ no. pairs_kept R xs h.1)
 
+  -- so a list in order stays in order
+  pub kept_ordered : (ahead : X → X → Bool) (xs : List X) → Ordered ahead xs → Ordered ahead (filter p xs)
+  kept_ordered ahead xs h = pairs_ordered ahead (filter p xs) (pairs_kept (λ x y. ahead x y ≡ true) xs (ordered_pairs ahead xs h))
+
   pair_tail_by : (R : X → X → Type 0) (x : X) (xs : List X) (b : Bool) → Pairs R (cond b (x ∷ xs) xs) → Pairs R xs
   pair_tail_by R x xs true h = h.1
   pair_tail_by R x xs false h = h
+
+  -- what passes a second test stays where all of it passes the first
+  pub kept_past : (q : X → Bool) (xs : List X) → AllByRecursion (λ x. q x ≡ true → p x ≡ true) xs → filter q (filter p xs) ≡ filter q xs
+  kept_past q [] h = refl
+  kept_past q (x ∷ xs) h =
+      cond_both (p x) (x ∷ filter p xs) (filter p xs) (λ l. filter q l ≡ filter q (x ∷ xs))
+      (λ yes. ap (λ l. cond (q x) (x ∷ l) l) (kept_past q xs h.1))
+      (λ no. kept_past q xs h.1 ∙ sym (cond-false (q x) (x ∷ filter q xs) (filter q xs) (false_from_ne_true (q x) (λ on. both_ways (p x) no (h.0 on)))))
 
   -- of the first and all others that are kept, and of any two of the others
   pub pairs_first : (R : X → X → Type 0) (x : X) (xs : List X) → p x ≡ true → Pairs R (filter p (x ∷ xs)) → AllByRecursion (λ y. p y ≡ true → R x y) xs

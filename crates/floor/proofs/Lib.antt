@@ -9,6 +9,7 @@ pub mod Joining
 pub mod Kept
 pub mod Keeping
 pub mod Known
+pub mod Leaving
 pub mod Leasts
 pub mod Listed
 pub mod Moved
@@ -22,4 +23,5 @@ pub mod Rowed
 pub mod Settling
 pub mod Stretch
 pub mod Tests
+pub mod Trying
 pub mod Widths

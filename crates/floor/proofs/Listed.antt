@@ -81,7 +81,7 @@ apart_one (r ∷ rows) a b apart shared ea eb =
     in_a
 
 module _ (rows : List Row) (well : rows_formed rows ≡ true) where
-  row_parts : (every (λ r. not (is_some (row_fault r))) rows ≡ true) × ((every_pair row_ahead rows && every_pair (λ a b. not (share a b)) rows) ≡ true)
+  pub row_parts : (every (λ r. not (is_some (row_fault r))) rows ≡ true) × ((every_pair row_ahead rows && every_pair (λ a b. not (share a b)) rows) ≡ true)
   row_parts = and_parts (every (λ r. not (is_some (row_fault r))) rows) (every_pair row_ahead rows && every_pair (λ a b. not (share a b)) rows) well
 
   -- a standing row passes its check

@@ -13,7 +13,7 @@ use Rattle.floor.proofs.Resited.{resited_length}
 use Rattle.floor.proofs.Stretch.{wanted_places, none_before, all_among, seats_stretch}
 
 -- no sites rewrite nothing
-resited_nothing : (row : Row) (seats : List Seat) → resited row [] seats ≡ seats
+pub resited_nothing : (row : Row) (seats : List Seat) → resited row [] seats ≡ seats
 resited_nothing row [] = refl
 resited_nothing row (s ∷ seats) = refl
 

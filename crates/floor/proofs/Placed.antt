@@ -108,7 +108,7 @@ seated_found f seats cell row =
     (any_cells test (resited row sites all) ∙ ap (any test) (resited_cells row sites all) ∙ sym (any_cells test all) ∙ own)
 
 -- what holds of the seats of a number holds of the one that is found
-found_has : (P : Seat → Type 0) (number : ℕ) (seats : List Seat) (s : Seat) → AllByRecursion (λ t. eqb t.cell.number number ≡ true → P t) seats → seat_of number seats ≡ Some s → P s
+pub found_has : (P : Seat → Type 0) (number : ℕ) (seats : List Seat) (s : Seat) → AllByRecursion (λ t. eqb t.cell.number number ≡ true → P t) seats → seat_of number seats ≡ Some s → P s
 found_has P number [] s all e = let never : ◌≡◌ {A = ℕ} 0 1 = cc in absurd (omega arith)
 found_has P number (t ∷ seats) s all e = by_test (eqb t.cell.number number) refl (found_has P number seats s all.1) e
   where
@@ -117,7 +117,7 @@ found_has P number (t ∷ seats) s all e = by_test (eqb t.cell.number number) re
     by_test false is rest h = rest h
 
 -- the seat that is found by the number of a new cell is on the row that took it
-seated_row : (f : ℕ → ℕ → ℕ → ℕ) (seats : List Seat) (cell : Cell) (row : Row) (s : Seat) → stands cell.number seats ≡ false → seat_of cell.number (seated f seats cell row) ≡ Some s → s.row ≡ row
+pub seated_row : (f : ℕ → ℕ → ℕ → ℕ) (seats : List Seat) (cell : Cell) (row : Row) (s : Seat) → stands cell.number seats ≡ false → seat_of cell.number (seated f seats cell row) ≡ Some s → s.row ≡ row
 seated_row f seats cell row s fresh found =
     let k : Seat = new_seat row cell in
     let all : List Seat = joined row cell seats in
@@ -159,16 +159,23 @@ chose {f} fair rows seats cell {choice} {given} well free taken told = by_row (c
           well = seated_formed f fair rows seats cell choice.row well can good.stands good.fits;
         }
 
--- what placing answers then, and the seats
+-- what placing answers then: the site is that of the new cell's seat
+pub placing_is : {f : ℕ → ℕ → ℕ → ℕ} (rows : List Row) (seats : List Seat) (cell : Cell) (choice : Choice) {site : ℕ} → Chose f rows seats cell choice → site ≡ site_then cell.number (seated f seats cell choice.row) →
+    Ok (record { spot = record { line = choice.row.line; site = site }; rise = choice.rise }) ≡ place_answer f rows seats cell
+placing_is {f} rows seats cell choice known is =
+    (λ i. Ok (record { spot = record { line = choice.row.line; site = is i }; rise = known.rises i }))
+    ∙ sym (ap (λ o. refused_or o (placed_on f seats cell (chosen f seats cell rows))) known.granted ∙ ap (placed_on f seats cell) known.is)
+
+-- the seat has that site, on the row that was chosen; and the seats then
 pub answers : {f : ℕ → ℕ → ℕ → ℕ} (rows : List Row) (seats after : List Seat) (cell : Cell) (choice : Choice) (seat : Seat) {at : Spot} → Chose f rows seats cell choice → after ≡ seated f seats cell choice.row → seat_of cell.number after ≡ Some seat → at ≡ spot seat →
     Ok (record { spot = at; rise = choice.rise }) ≡ place_answer f rows seats cell
 answers {f} rows seats after cell choice seat known same found is =
     let site : seat.site ≡ site_then cell.number (seated f seats cell choice.row) =
     sym (ap (λ o. unwrap_or (option_map site_of o) 0) found) ∙ ap (λ l. unwrap_or (option_map site_of (seat_of cell.number l)) 0) same in
     let own : seat.row ≡ choice.row = seated_row f seats cell choice.row seat known.fresh (sym (ap (seat_of cell.number) same) ∙ found) in
-    (λ i. Ok (record { spot = is i; rise = known.rises i }))
-    ∙ (λ i. Ok (record { spot = record { line = (own i).line; site = site i }; rise = rise f seats cell choice.row }))
-    ∙ sym (ap (λ o. refused_or o (placed_on f seats cell (chosen f seats cell rows))) known.granted ∙ ap (placed_on f seats cell) known.is)
+    (λ i. Ok (record { spot = is i; rise = choice.rise }))
+    ∙ (λ i. Ok (record { spot = record { line = (own i).line; site = seat.site }; rise = choice.rise }))
+    ∙ placing_is rows seats cell choice known site
 
 pub seats_then : {f : ℕ → ℕ → ℕ → ℕ} (rows : List Row) (seats : List Seat) (cell : Cell) (choice : Choice) → Chose f rows seats cell choice → seated f seats cell choice.row ≡ seats_after_place f rows seats cell
 seats_then {f} rows seats cell choice known =

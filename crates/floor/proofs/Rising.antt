@@ -6,7 +6,7 @@ use Rattle.row.specs.Sites.{row_sites, sites_cost}
 use Rattle.row.specs.Stack.{Passes, Ready}
 use Rattle.row.specs.declared.Cell.{Cell}
 use Rattle.row.specs.declared.Row.{Row}
-use Rattle.row.proofs.Accepted.{accepted}
+use Rattle.row.proofs.Accepted.{accepted, ready_fitting}
 use Rattle.row.proofs.Finished.{row_places}
 use Rattle.row.proofs.Ranges.{ranged}
 use Rattle.row.proofs.Rises.{in_ranges}
@@ -34,7 +34,7 @@ module _ {f : ℕ → ℕ → ℕ → ℕ} (fair : Fair f) (seats : List Seat) (
   pub seated_cost : row_cost f row (seated f seats cell row) ≡ sites_cost f cs (row_sites f row cs)
   seated_cost =
       (λ i. sites_cost f (resited_cells_on row (row_sites f row cs) (joined row cell seats) i) (sites_on row (seated f seats cell row)))
-      ∙ ap (sites_cost f cs) (resited_sites_on row (row_sites f row cs) (joined row cell seats) (sites_long f fair row (joined row cell seats) ready))
+      ∙ ap (sites_cost f cs) (resited_sites_on row (row_sites f row cs) (joined row cell seats) (sites_long f fair row (joined row cell seats) (ready_fitting row cs ready)))
 
   pub seated_bound : sites_cost f cs (row_sites f row cs) ≤ 2 ^ 52
   seated_bound =

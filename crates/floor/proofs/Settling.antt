@@ -17,10 +17,11 @@ use Rattle.row.specs.Stack.{Passes, Ready}
 use Rattle.row.specs.declared.Cell.{Cell}
 use Rattle.row.specs.declared.Refusal.TheVariants.{OutOfRange, Size, Order, TooWide}
 use Rattle.row.specs.declared.Row.{Row}
-use Rattle.row.proofs.Accepted.{Accepted, accepted}
+use Rattle.row.proofs.Accepted.{Fitting, accepted}
 use Rattle.row.proofs.Finished.{row_places}
 use Rattle.row.proofs.Instance.{lane, next_is}
-use Rattle.row.proofs.Subject.{row_answer, row_cheapest}
+use Rattle.row.proofs.Ranges.{ranged_row}
+use Rattle.row.proofs.Subject.{fitting_answer, fitting_cheapest}
 use Rattle.row.proofs.Theory.Packed.{next, Chain}
 use Rattle.table.specs.Order.{Ordered}
 use Rattle.table.proofs.Inserted.{Pairs}
@@ -100,6 +101,19 @@ row_accepts rows row seats listed stands few wide =
     let fewer = cells_few row seats in
     set_accepts row (cells_on row seats) (standing_passes rows listed.well row stands) (omega arith) (cells_pass rows row seats listed) (cells_in_order rows row seats listed) wide
 
+-- a standing row and its cells fit, however many they are, where they are no wider than the row
+pub row_fitting : (rows : List Row) (row : Row) (seats : List Seat) → Listed rows seats → Standing rows row → row.left + widths (cells_on row seats) ≤ row.right → Fitting row (cells_on row seats)
+row_fitting rows row seats listed stands room = record {
+  ranged = ranged_row row (standing_passes rows listed.well row stands);
+  pass = cells_pass rows row seats listed;
+  order = every_two (λ c d. before c d ≡ true) (cells_on row seats) (cells_in_order rows row seats listed);
+  room = room;
+}
+  where
+    every_two : {X : Type 0} (R : X → X → Type 0) (xs : List X) → Pairs R xs → EveryPair R xs
+    every_two R [] h = tt
+    every_two R (x ∷ xs) h = (h.0, every_two R xs h.1)
+
 -- the cells of a chain start behind each other
 module _ (f : ℕ → ℕ → ℕ → ℕ) (row : Row) where
   chain_from : (cs : List Cell) (ys : List ℕ) (lo : ℕ) → Chain (lane f row) lo cs ys → AllByRecursion (λ p. lo ≤ p.site) (placed cs ys)
@@ -118,16 +132,13 @@ module _ (f : ℕ → ℕ → ℕ → ℕ) (row : Row) where
         chain_behind cs ys (y + next (lane f row) c cs) chain.2,
       )
 
--- the sites of a row whose cells `set` accepts: one for each, within the row, each behind those before it
-module _ (price : ℕ → ℕ → ℕ → ℕ) (fair : Fair price) (row : Row) (seats : List Seat) (ready : Ready row (cells_on row seats)) where
+-- the sites of a row whose cells fit it: one for each, within the row, each behind those before it
+module _ (price : ℕ → ℕ → ℕ → ℕ) (fair : Fair price) (row : Row) (seats : List Seat) (fits : Fitting row (cells_on row seats)) where
   abbrev cells : List Cell
   cells = cells_on row seats
 
-  known : Accepted row cells (length cells)
-  known = accepted row cells (length cells) ready
-
   setting : Setting row cells (row_sites price row cells)
-  setting = (row_cheapest price row fair cells (length cells) known).setting
+  setting = (fitting_cheapest price row fair cells fits).setting
 
   pub sites_long : length (row_sites price row (cells_on row seats)) ≡ length (seats_on row seats)
   sites_long = setting.each ∙ length-map (seats_on row seats) (λ s. s.cell)
@@ -136,7 +147,7 @@ module _ (price : ℕ → ℕ → ℕ → ℕ) (fair : Fair price) (row : Row) (
   sites_within = setting.legal.0
 
   pub sites_behind : EveryPair Behind (placed (cells_on row seats) (row_sites price row (cells_on row seats)))
-  sites_behind = chain_behind price row cells (row_sites price row cells) row.left (row_answer price row fair cells (length cells) known).legal
+  sites_behind = chain_behind price row cells (row_sites price row cells) row.left (fitting_answer price row fair cells fits).legal
 
   -- so a floor that is formed but for the sites of the row is formed once the row is set
   pub settled_formed : (rows : List Row) → Listed rows seats → Standing rows row → ((r : Row) → same_row r row ≡ false → Sited (seats_on r seats)) → formed rows (settled price row seats) ≡ true

@@ -19,7 +19,7 @@ use Rattle.floor.specs.Seats.{on_row, seat_ahead, seats_on, cells_on, cell_of, S
 use Rattle.floor.specs.Spans.{Spanned}
 use Rattle.floor.specs.declared.Seat.{Seat}
 use Rattle.floor.proofs.Defaults.{no_seat}
-use Rattle.floor.proofs.Kept.{kept_yes, kept_no, kept_all, kept_none, all_with}
+use Rattle.floor.proofs.Kept.{kept_yes, kept_no, kept_all, kept_none, kept_ordered, all_with}
 use Rattle.floor.proofs.Orders.{seat_chain}
 
 -- what the two keys of a row say of a seat
@@ -107,12 +107,7 @@ on_few row seats = let kept = length-filter (on_row row) seats in let few = coun
 
 -- the seats of a row are in their order
 pub on_ordered : (row : Row) (seats slice : List Seat) → slice ≡ seats_on row seats → Ordered seat_ahead seats → Ordered seat_ahead slice
-on_ordered row seats slice same ordered = subst (Ordered seat_ahead) (sym same) (kept_ordered seats ordered)
-  where
-    kept_ordered : (ss : List Seat) → Ordered seat_ahead ss → Ordered seat_ahead (seats_on row ss)
-    kept_ordered [] h = tt
-    kept_ordered (s ∷ ss) h =
-        cond_both (on_row row s) (s ∷ seats_on row ss) (seats_on row ss) (Ordered seat_ahead) (λ yes. (all_kept_by (on_row row) (λ t. seat_ahead s t ≡ true) ss h.0, kept_ordered ss h.1)) (λ no. kept_ordered ss h.1)
+on_ordered row seats slice same ordered = subst (Ordered seat_ahead) (sym same) (kept_ordered (on_row row) seat_ahead seats ordered)
 
 -- a key that no record is ahead of goes first
 put_first : {X : Type 0} (ahead : X → X → Bool) (k : X) (xs : List X) → AllByRecursion (λ x. ahead x k ≡ false) xs → put_in ahead k xs ≡ k ∷ xs
@@ -138,6 +133,10 @@ put_on row k (s ∷ seats) own ordered =
     kept_yes (on_row row) k (s ∷ seats) own
     ∙ sym (put_first seat_ahead k (seats_on row (s ∷ seats)) (all_kept_by (on_row row) (λ t. seat_ahead t k ≡ false) (s ∷ seats) (not, behind_too k s seats not ordered.0))))
 
+-- so does a cell
+pub joined_own : (row : Row) (cell : Cell) (seats : List Seat) → Ordered seat_ahead seats → seats_on row (joined row cell seats) ≡ put_in seat_ahead (new_seat row cell) (seats_on row seats)
+joined_own row cell seats ordered = ap (seats_on row) (inserted_is seat_ahead (new_seat row cell) seats) ∙ put_on row (new_seat row cell) seats (on_own row cell) ordered
+
 -- the cells of a row with a cell more, where the row's own seats are cut at the place that a search says
 pub joined_at : (row : Row) (cell : Cell) (seats slice : List Seat) (key : Seat) (at : ℕ) (before behind : List Seat) → Ordered seat_ahead seats → slice ≡ seats_on row seats → key ≡ new_seat row cell → at ≡ rank_of seat_ahead slice key → before ≡ take at slice → behind ≡ drop at slice →
     map cell_of before ++ cell ∷ map cell_of behind ≡ cells_on row (joined row cell seats)
@@ -146,7 +145,7 @@ joined_at row cell seats slice key at before behind ordered same new is front ba
     let own : List Seat = seats_on row seats in
     let place : at ≡ rank_of seat_ahead own k = is ∙ (λ i. rank_of seat_ahead (same i) (new i)) in
     let put : seats_on row (joined row cell seats) ≡ take (rank_of seat_ahead own k) own ++ k ∷ drop (rank_of seat_ahead own k) own =
-    ap (seats_on row) (inserted_is seat_ahead k seats) ∙ put_on row k seats (on_own row cell) ordered ∙ sym (inserted_is seat_ahead k own) in
+    joined_own row cell seats ordered ∙ sym (inserted_is seat_ahead k own) in
     (λ i. map cell_of (front i) ++ cell ∷ map cell_of (back i))
     ∙ (λ i. map cell_of (take (place i) (same i)) ++ cell ∷ map cell_of (drop (place i) (same i)))
     ∙ sym (ap (map cell_of) put ∙ map-append cell_of (take (rank_of seat_ahead own k) own) (k ∷ drop (rank_of seat_ahead own k) own))

@@ -8,6 +8,8 @@ use row::Row;
 mod looks;
 mod place;
 mod rows;
+mod try_place;
+mod withdraw;
 
 // The most rows that a floor has.
 const MOST_ROWS: usize = 64;

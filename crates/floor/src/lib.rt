@@ -18,7 +18,7 @@ pub struct Seat {
     pub site: u32,
 }
 
-// What a granted placing answers: where the cell stands, and what the floor costs more.
+// What a granted placing answers, and a try of one: where the cell stands then, and what the floor costs more.
 #[derive(Clone, Copy, PartialEq, Eq, Debug)]
 pub struct Placing {
     pub spot: Spot,

@@ -6,4 +6,6 @@ pub mod Perms
 pub mod Seated
 pub mod Steps
 pub mod Tables
+pub mod Worked
+pub mod Grants
 pub mod Unique

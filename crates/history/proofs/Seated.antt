@@ -21,7 +21,7 @@ use Rattle.floor.specs.declared.Refusal.TheVariants.{NotStanding}
 use Rattle.floor.specs.declared.Seat.{Seat}
 use Rattle.floor.proofs.Joining.{row_ready}
 use Rattle.floor.proofs.Kept.{all_with, pairs_with, pairs_both, pairs_kept, kept_passing}
-use Rattle.floor.proofs.Listed.{Standing, Differ, Inside, Sited as SitedOn, Clear, formed_listed, formed_sited, each_own, pairs_own}
+use Rattle.floor.proofs.Listed.{Standing, Differ, Listed, Inside, Sited as SitedOn, Clear, formed_listed, formed_sited, each_own, pairs_own}
 use Rattle.floor.proofs.Orders.{ahead_not_same, same_trans, same_sym}
 use Rattle.floor.proofs.Resited.{own_row}
 use Rattle.floor.proofs.Tests.{none_any, ordered_pairs}
@@ -155,16 +155,16 @@ row_pairs R at row seats h =
     (pairs_kept (on_row row) One seats (pairs_unmapped (λ k l. OnOneRow k l → R (placed at k) (placed at l)) standing_of seats h))
     (pairs_both (λ s. on_row row s ≡ true) (seats_on row seats) (kept_by_passes (on_row row) seats)))
 
--- a setting of the floor is a setting of each standing row
-pub row_setting : (rows : List Row) (seats : List Seat) → formed rows seats ≡ true → (other : ℕ → ℕ) → Setting (map standing_of seats) other → (row : Row) → Standing rows row →
+-- a setting of the floor is a setting of each standing row, whatever sites its seats have
+pub listed_setting : (rows : List Row) (seats : List Seat) → Listed rows seats → (other : ℕ → ℕ) → Setting (map standing_of seats) other → (row : Row) → Standing rows row →
     row_settings.Setting row (cells_on row seats) (map (λ s. other s.cell.number) (seats_on row seats))
-row_setting rows seats well other setting row standing =
+listed_setting rows seats listed other setting row standing =
     let ss : List Seat = seats_on row seats in
     let p : Seat → row_settings.Placed = λ s. placed other (standing_of s) in
     let same : row_settings.placed (cells_on row seats) (map (λ s. other s.cell.number) ss) ≡ map p ss = placed_mapped (λ s. s.cell) (λ s. other s.cell.number) ss in
     let each = all_unmapped (λ k. Within k.row (placed other k)) standing_of seats setting.legal.within in
     let within = all_with (λ s. s.row ≡ row) (λ s. Within s.row (p s)) (λ s. Within row (p s)) (λ s own h. subst (λ r. Within r (p s)) own h) ss
-    (own_row rows row seats (formed_listed rows seats well) standing) (all_kept_by (on_row row) (λ s. Within s.row (p s)) seats each) in
+    (own_row rows row seats listed standing) (all_kept_by (on_row row) (λ s. Within s.row (p s)) seats each) in
     record {
       each = length-map ss (λ s. other s.cell.number) ∙ sym (length-map ss (λ s. s.cell));
       legal = (
@@ -173,6 +173,11 @@ row_setting rows seats well other setting row standing =
       );
       in_order = subst (EveryPair Rising) (sym same) (row_pairs Rising other row seats setting.in_order);
     }
+
+-- and so it is where they have sites as they should
+pub row_setting : (rows : List Row) (seats : List Seat) → formed rows seats ≡ true → (other : ℕ → ℕ) → Setting (map standing_of seats) other → (row : Row) → Standing rows row →
+    row_settings.Setting row (cells_on row seats) (map (λ s. other s.cell.number) (seats_on row seats))
+row_setting rows seats well = listed_setting rows seats (formed_listed rows seats well)
 
 -- the cells of a standing row are as `set` accepts them
 pub row_accepted : (rows : List Row) (seats : List Seat) → formed rows seats ≡ true → length seats ≤ 1024 → (row : Row) → Standing rows row → Accepted row (cells_on row seats) (length (cells_on row seats))

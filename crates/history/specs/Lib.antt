@@ -4,3 +4,4 @@ pub mod Settings
 pub mod Law
 pub mod Slack
 pub mod Lives
+pub mod Worked

@@ -85,3 +85,17 @@ accepted row cells count e =
 -- of a row and its cells that are ready
 pub ready_known : (row : Row) (cells : List Cell) → Ready row cells → Accepted row cells (length cells)
 ready_known row cells ready = accepted row cells (length cells) ready
+
+-- what the sites of a row need of it and of its cells, however many they are
+pub record Fitting (row : Row) (cells : List Cell) : Type 0 where
+  pub ranged : RangedRow row
+  pub pass : AllByRecursion Passes cells
+  pub order : EveryPair (λ c d. before c d ≡ true) cells
+  pub room : row.left + widths cells ≤ row.right
+
+-- `set` accepts nothing else
+pub accepted_fitting : (row : Row) (cells : List Cell) (count : ℕ) → Accepted row cells count → Fitting row cells
+accepted_fitting row cells count a = record { ranged = a.ranged; pass = a.pass; order = a.order; room = a.room }
+
+pub ready_fitting : (row : Row) (cells : List Cell) → Ready row cells → Fitting row cells
+ready_fitting row cells ready = accepted_fitting row cells (length cells) (ready_known row cells ready)

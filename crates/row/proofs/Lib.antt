@@ -3,6 +3,7 @@ pub mod Costs
 pub mod Defaults
 pub mod Fewer
 pub mod Finished
+pub mod Fits
 pub mod Instance
 pub mod Laying
 pub mod Least

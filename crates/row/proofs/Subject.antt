@@ -10,7 +10,7 @@ use Rattle.row.specs.Sites.{best_site, row_sites}
 use Rattle.row.specs.Stack.{Passes}
 use Rattle.row.specs.declared.Cell.{Cell}
 use Rattle.row.specs.declared.Row.{Row}
-use Rattle.row.proofs.Accepted.{Accepted, before_once}
+use Rattle.row.proofs.Accepted.{Accepted, Fitting, accepted_fitting, before_once}
 use Rattle.row.proofs.Instance.{lane, tight, next_is, span_is, cost_is, best_is, all_bend, sites_are}
 use Rattle.row.proofs.Ranges.{ranged}
 use Rattle.row.proofs.Theory.Packed.{Lane, next, Chain, NotRight, span}
@@ -129,28 +129,36 @@ module _ (f : ℕ → ℕ → ℕ → ℕ) (row : Row) where
   each_from [] (y ∷ ys) (z ∷ zs) a b h = absurd (omega arith)
   each_from (c ∷ cs) (y ∷ ys) (z ∷ zs) a b h = (h.0, each_from cs ys zs (omega arith) (omega arith) h.1)
 
-  -- the row's sites are the answer of the theory
-  pub row_answer : Fair f → (cells : List Cell) (count : ℕ) → Accepted row cells count → Answer R cells (row_sites f row cells)
-  row_answer fair cells count a =
-      let right = a.ranged.right in
-      let room : row.left + span R cells ≤ row.right = let w = span_is f row cells in omega (arith, a.room) in
-      subst (Answer R cells) (sym (sites_are f row cells))
-      (settled_answer R (tight f row) (best_site f row) (best_is f row) cells (all_bend f row fair right cells a.pass) room refl)
+  module _ (fair : Fair f) (cells : List Cell) (fits : Fitting row cells) where
+    -- the row's sites are the answer of the theory
+    pub fitting_answer : Answer R cells (row_sites f row cells)
+    fitting_answer =
+        let right = fits.ranged.right in
+        let room : row.left + span R cells ≤ row.right = let w = span_is f row cells in omega (arith, fits.room) in
+        subst (Answer R cells) (sym (sites_are f row cells))
+        (settled_answer R (tight f row) (best_site f row) (best_is f row) cells (all_bend f row fair right cells fits.pass) room refl)
 
-  -- so they are the cheapest setting, and of the cheapest the leftmost
+    -- so they are the cheapest setting, and of the cheapest the leftmost
+    pub fitting_cheapest : Cheapest f row cells (row_sites f row cells)
+    fitting_cheapest =
+        let ys = row_sites f row cells in
+        let answer = fitting_answer in
+        let cost_of_ys = cost_is f row cells ys in
+        let setting = chain_setting cells ys fits.pass fits.order answer.legal in
+        record {
+          setting = setting;
+          cheapest = λ zs other.
+              let least = answer.cheapest zs (setting_chain cells zs fits.pass fits.order other) in
+              let cost_of_zs = cost_is f row cells zs in
+              omega arith;
+          leftmost = λ zs other same.
+              let cost_of_zs = cost_is f row cells zs in
+              each_from cells ys zs setting.each other.each (answer.leftmost zs (setting_chain cells zs fits.pass fits.order other) (omega arith));
+        }
+
+  -- the same of what `set` accepts
+  pub row_answer : Fair f → (cells : List Cell) (count : ℕ) → Accepted row cells count → Answer R cells (row_sites f row cells)
+  row_answer fair cells count a = fitting_answer fair cells (accepted_fitting row cells count a)
+
   pub row_cheapest : Fair f → (cells : List Cell) (count : ℕ) → Accepted row cells count → Cheapest f row cells (row_sites f row cells)
-  row_cheapest fair cells count a =
-      let ys = row_sites f row cells in
-      let answer = row_answer fair cells count a in
-      let cost_of_ys = cost_is f row cells ys in
-      let setting = chain_setting cells ys a.pass a.order answer.legal in
-      record {
-        setting = setting;
-        cheapest = λ zs other.
-            let least = answer.cheapest zs (setting_chain cells zs a.pass a.order other) in
-            let cost_of_zs = cost_is f row cells zs in
-            omega arith;
-        leftmost = λ zs other same.
-            let cost_of_zs = cost_is f row cells zs in
-            each_from cells ys zs setting.each other.each (answer.leftmost zs (setting_chain cells zs a.pass a.order other) (omega arith));
-      }
+  row_cheapest fair cells count a = fitting_cheapest fair cells (accepted_fitting row cells count a)

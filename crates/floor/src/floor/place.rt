@@ -16,7 +16,7 @@ use row::{Cell, MOST_CELLS};
 
 impl<M: Measure> Floor<M> {
     // Refuses a cell that no row can take, by the first check that fails.
-    fn check_cell(&self, cell: &Cell) -> Result<(), Refusal>
+    pub(super) fn check_cell(&self, cell: &Cell) -> Result<(), Refusal>
         ensures { checked result ≡ cell_refusal (seats_of self.now) cell.now }
     {
         cell.check()?;
@@ -30,7 +30,7 @@ impl<M: Measure> Floor<M> {
     }
 
     // The row of least rise for a cell, with its rise, if a row has sites for it.
-    fn choose(&self, cell: Cell) -> Option<Choice>
+    pub(super) fn choose(&self, cell: Cell) -> Option<Choice>
         requires { cell_refusal (seats_of self.now) cell ≡ None }
         ensures { result ≡ option_map (choice_of (M.price self.now.measure) (seats_of self.now) cell)
             (chosen (M.price self.now.measure) (seats_of self.now) cell (rows_of self.now)) }

@@ -3,7 +3,7 @@ ghost use Rattle.std.specs.Prelude.{◌≡◌, ◌<◌, false, length, None};
 ghost use Rattle.row.specs.Records.{cell_fault};
 ghost use Rattle.row.specs.Sites.{row_sites, sites_cost};
 ghost use Rattle.row.specs.Stack.{Ready};
-ghost use Rattle.floor.specs.Calls.{seated};
+ghost use Rattle.floor.specs.Calls.{seated, site_then, without};
 ghost use Rattle.floor.specs.Refusals.{stands};
 ghost use Rattle.floor.specs.Seats.{CanTake, moved_all, cells_on, joined, settled};
 
@@ -52,6 +52,23 @@ impl Seats {
         cells
     }
 
+    // The site that a cell has once it is put on a row and the row is set.
+    pub(crate) fn site_with<M: Measure>(&self, measure: &M, row: Row, cell: Cell) -> u32
+        requires fresh { stands cell.number self.now.items.items ≡ false }
+        requires few { length self.now.items.items < 1024 }
+        requires ready { CanTake row cell self.now.items.items }
+        ensures { result ≡ site_then cell.number (seated (M.price measure.now) self.now.items.items cell row) }
+    {
+        let cells = self.gather_with(row, cell);
+        let cells = cells.as_slice();
+        // No heap here either.
+        let mut sites = [0; MOST_CELLS];
+        let sites = &mut sites[0..cells.len()];
+        let _ = set_ready(measure, row, cells, sites);
+        let at = place_of(self.on(row), &Seat::new(row, cell));
+        sites[at]
+    }
+
     // Sets a row: only the sites of its own seats are rewritten.
     fn settle<M: Measure>(&mut self, measure: &M, row: Row)
         requires { Ready row (cells_on row self.old.items.items) }
@@ -80,5 +97,15 @@ impl Seats {
         let at = self.place(&seat);
         self.items.insert(at, seat).unwrap();
         self.settle(measure, row);
+    }
+
+    // Takes a seat out, and sets its row again.
+    pub(crate) fn unseat<M: Measure>(&mut self, measure: &M, seat: Seat)
+        requires { Ready seat.row (cells_on seat.row (without seat.cell.number self.old.items.items)) }
+        ensures { self.new.items.items ≡ settled (M.price measure.now) seat.row (without seat.cell.number self.old.items.items) }
+    {
+        self.items
+            .retain(|other| other.cell.number != seat.cell.number);
+        self.settle(measure, seat.row);
     }
 }

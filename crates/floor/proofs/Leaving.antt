@@ -1,0 +1,120 @@
+-- A cell leaves a floor: what holds of the seats that are left, and that the floor stays well formed and set once the row is set again.
+use Rattle.std.proofs.Common.{◌≡◌, ℕ, ◌≤◌, Bool, true, false, cond, not, ◌&&◌, eqb, List, [], ◌∷◌, length, filter, Some, None, Option, sym, refl, ap, ◌∙◌, subst, arith}
+use Rattle.std.proofs.ByRecursion.{All-weaker, all_kept_by}
+use Rattle.std.proofs.lemmas.Bool.{and_parts, and_from, both_ways, eqb-true, eq-eqb, false_from_ne_true, not_from_false}
+use Rattle.std.proofs.lemmas.List.Sums.{length-filter, count_by-le-length}
+use Rattle.std.proofs.lemmas.Option.{same_Some}
+use Rattle.std.specs.List.{AllByRecursion}
+use Rattle.measure.specs.Costs.{Fair}
+use Rattle.row.specs.Stack.{Ready}
+use Rattle.row.specs.declared.Row.{Row}
+use Rattle.table.proofs.Inserted.{Pairs}
+use Rattle.floor.specs.Calls.{seat_of, without, seats_less, seats_after_withdraw}
+use Rattle.floor.specs.Formed.{every, every_pair, rows_formed, seat_formed, seats_apart, formed}
+use Rattle.floor.specs.Rows.{same_row}
+use Rattle.floor.specs.Seats.{on_row, seats_on, cells_on, settled}
+use Rattle.floor.specs.Settled.{Settled}
+use Rattle.floor.specs.declared.Seat.{Seat}
+use Rattle.floor.proofs.Joining.{standing_fitting, set_formed, row_ready}
+use Rattle.floor.proofs.Keeping.{row_settled}
+use Rattle.floor.proofs.Kept.{pairs_kept, kept_past}
+use Rattle.floor.proofs.Listed.{Standing, Differ, formed_listed}
+use Rattle.floor.proofs.Orders.{same_sym}
+use Rattle.floor.proofs.Placed.{found_has}
+use Rattle.floor.proofs.Tests.{every_all, all_every, pairs_all, all_pairs}
+
+-- a floor with some of its seats is well formed
+pub kept_formed : (p : Seat → Bool) (rows : List Row) (seats : List Seat) → formed rows seats ≡ true → formed rows (filter p seats) ≡ true
+kept_formed p rows seats well =
+    let parts = and_parts (rows_formed rows) (every (seat_formed rows) seats && every_pair seats_apart seats) well in
+    let both = and_parts (every (seat_formed rows) seats) (every_pair seats_apart seats) parts.1 in
+    and_from (rows_formed rows) (every (seat_formed rows) (filter p seats) && every_pair seats_apart (filter p seats)) parts.0
+    (and_from (every (seat_formed rows) (filter p seats)) (every_pair seats_apart (filter p seats))
+    (all_every (seat_formed rows) (filter p seats) (all_kept_by p (λ s. seat_formed rows s ≡ true) seats (every_all (seat_formed rows) seats both.0)))
+    (all_pairs seats_apart (filter p seats) (pairs_kept p (λ s t. seats_apart s t ≡ true) seats (pairs_all seats_apart seats both.1))))
+
+-- no number stands twice: every seat of a number is the one that is found
+pub found_only : (number : ℕ) (seats : List Seat) (s : Seat) → Pairs Differ seats → seat_of number seats ≡ Some s → AllByRecursion (λ t. eqb t.cell.number number ≡ true → t ≡ s) seats
+found_only number [] s differ e = tt
+found_only number (t ∷ seats) s differ e = by_test (eqb t.cell.number number) refl (found_only number seats s differ.1) e
+  where
+    by_test : (b : Bool) → eqb t.cell.number number ≡ b → (seat_of number seats ≡ Some s → AllByRecursion (λ u. eqb u.cell.number number ≡ true → u ≡ s) seats) → cond b (Some t) (seat_of number seats) ≡ Some s → AllByRecursion (λ u. eqb u.cell.number number ≡ true → u ≡ s) (t ∷ seats)
+    by_test true is rest h = (
+      λ _. same_Some t s h,
+      All-weaker (Differ t) (λ u. eqb u.cell.number number ≡ true → u ≡ s)
+          (λ u other own. let a = eqb-true t.cell.number number is in let b = eqb-true u.cell.number number own in absurd (both_ways (eqb t.cell.number u.cell.number) other (eq-eqb t.cell.number u.cell.number (omega arith)))) seats differ.0,
+    )
+    by_test false is rest h = (λ own. absurd (both_ways (eqb t.cell.number number) is own), rest h)
+
+-- the seat that is found has the number
+pub found_number : (number : ℕ) (seats : List Seat) (s : Seat) → seat_of number seats ≡ Some s → s.cell.number ≡ number
+found_number number seats s found = found_has (λ t. t.cell.number ≡ number) number seats s (each seats) found
+  where
+    each : (ts : List Seat) → AllByRecursion (λ t. eqb t.cell.number number ≡ true → t.cell.number ≡ number) ts
+    each [] = tt
+    each (t ∷ ts) = (eqb-true t.cell.number number, each ts)
+
+-- no more seats are left than stood
+pub without_few : (number : ℕ) (seats : List Seat) → length (without number seats) ≤ length seats
+without_few number seats =
+    let kept = length-filter (λ s. not (eqb s.cell.number number)) seats in
+    let few = count_by-le-length (λ s. not (eqb s.cell.number number)) seats in
+    omega arith
+
+module _ (rows : List Row) (seats : List Seat) (well : formed rows seats ≡ true) (number : ℕ) (s : Seat) (found : seat_of number seats ≡ Some s) where
+  -- the row of the seat stands
+  pub found_stands : Standing rows s.row
+  found_stands =
+      found_has (λ t. Standing rows t.row) number seats s (All-weaker (λ t. Standing rows t.row) (λ t. eqb t.cell.number number ≡ true → Standing rows t.row) (λ t there _. there) seats (formed_listed rows seats well).stand) found
+
+  -- without the seat the floor is well formed, but perhaps not set
+  pub without_formed : formed rows (without number seats) ≡ true
+  without_formed = kept_formed (λ t. not (eqb t.cell.number number)) rows seats well
+
+  -- `set` accepts the cells that are left on the row
+  pub without_ready : length seats ≤ 1024 → Ready s.row (cells_on s.row (without number seats))
+  without_ready few = let less = without_few number seats in row_ready rows (without number seats) s.row without_formed found_stands (omega arith)
+
+  -- any other row has the seats that it had
+  pub without_others : (r : Row) → same_row r s.row ≡ false → seats_on r (without number seats) ≡ seats_on r seats
+  without_others r other =
+      kept_past (λ t. not (eqb t.cell.number number)) (on_row r) seats
+      (All-weaker (λ t. eqb t.cell.number number ≡ true → t ≡ s) (λ t. on_row r t ≡ true → not (eqb t.cell.number number) ≡ true)
+      (λ t own on.
+      not_from_false (eqb t.cell.number number)
+      (false_from_ne_true (eqb t.cell.number number) (λ is. both_ways (same_row r s.row) other (same_sym s.row r (subst (λ u. on_row r u ≡ true) (own is) on)))))
+      seats (found_only number seats s (formed_listed rows seats well).differ found))
+
+-- what is known of a seat that is found by its number
+pub record Found (f : ℕ → ℕ → ℕ → ℕ) (seats : List Seat) (number : ℕ) (s : Seat) : Type 0 where
+  pub ready : Ready s.row (cells_on s.row (without s.cell.number seats))
+  pub after : settled f s.row (without s.cell.number seats) ≡ seats_after_withdraw f seats number
+
+pub found_known : (f : ℕ → ℕ → ℕ → ℕ) (rows : List Row) (seats : List Seat) (number : ℕ) (s : Seat) {looked : Option Seat} {count : ℕ} → formed rows seats ≡ true → count ≤ 1024 → count ≡ length seats → looked ≡ seat_of number seats → looked ≡ Some s → Found f seats number s
+found_known f rows seats number s well few counted finds some =
+    let found = sym finds ∙ some in
+    let number_is = found_number number seats s found in
+    record {
+      ready = without_ready rows seats well s.cell.number s (subst (λ n. seat_of n seats ≡ Some s) (sym number_is) found) (omega arith);
+      after = ap (λ n. settled f s.row (without n seats)) number_is ∙ sym (ap (seats_less f seats number) found);
+    }
+
+module _ (f : ℕ → ℕ → ℕ → ℕ) (fair : Fair f) (rows : List Row) (seats : List Seat) (well : formed rows seats ≡ true) where
+  less_formed : (number : ℕ) (o : Option Seat) → seat_of number seats ≡ o → formed rows (seats_less f seats number o) ≡ true
+  less_formed number None is = well
+  less_formed number (Some s) is = set_formed f fair rows (without number seats) s.row (without_formed rows seats well number s is) (found_stands rows seats well number s is)
+
+  less_settled : Settled f rows seats → (number : ℕ) (o : Option Seat) → seat_of number seats ≡ o → Settled f rows (seats_less f seats number o)
+  less_settled set number None is = set
+  less_settled set number (Some s) is =
+      let stands = found_stands rows seats well number s is in
+      row_settled f fair rows seats (without number seats) s.row (standing_fitting rows (without number seats) s.row (without_formed rows seats well number s is) stands) (without_others rows seats well number s is)
+      (formed_listed rows seats well).well stands set
+
+-- a floor stays well formed when a cell is withdrawn
+pub withdraw_formed : (f : ℕ → ℕ → ℕ → ℕ) → Fair f → (rows : List Row) (seats : List Seat) → formed rows seats ≡ true → (number : ℕ) → formed rows (seats_after_withdraw f seats number) ≡ true
+withdraw_formed f fair rows seats well number = less_formed f fair rows seats well number (seat_of number seats) refl
+
+-- and one whose rows are set stays so
+pub withdraw_settled : (f : ℕ → ℕ → ℕ → ℕ) → Fair f → (rows : List Row) (seats : List Seat) → formed rows seats ≡ true → Settled f rows seats → (number : ℕ) → Settled f rows (seats_after_withdraw f seats number)
+withdraw_settled f fair rows seats well set number = less_settled f fair rows seats well set number (seat_of number seats) refl

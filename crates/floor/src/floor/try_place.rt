@@ -1,0 +1,25 @@
+// Trying a cell: what placing it would answer.
+ghost use Rattle.std.specs.Prelude.{◌≡◌};
+ghost use Rattle.floor.specs.Calls.{place_answer};
+ghost use Rattle.floor.specs.State.{rows_of, seats_of};
+
+use crate::floor::Floor;
+use crate::{Placing, Refusal};
+use measure::Measure;
+use row::{Cell, Spot};
+
+impl<M: Measure> Floor<M> {
+    // What `place` would answer for a cell. Nothing changes.
+    pub fn try_place(&self, cell: Cell) -> Result<Placing, Refusal>
+        ensures { result ≡ place_answer (M.price self.now.measure) (rows_of self.now) (seats_of self.now) cell }
+    {
+        self.check_cell(&cell)?;
+        let choice = self.choose(cell).ok_or(Refusal::NoRoom)?;
+        let line = choice.row.line;
+        let site = self.seats.site_with(&self.measure, choice.row, cell);
+        Ok(Placing {
+            spot: Spot { line, site },
+            rise: choice.rise,
+        })
+    }
+}

@@ -1,0 +1,277 @@
+-- A granted placing on a floor's tables is as the law says, for what stands in whatever order.
+use Rattle.std.proofs.Common.{◌≡◌, ℕ, ◌+◌, ◌-◌, ◌<◌, ◌≤◌, Bool, true, false, cond, not, ◌&&◌, eqb, leb, ltb, List, [], ◌∷◌, ◌++◌, map, length, take, drop, Some, None, Ok, Option, IsSome, sym, refl, ap, ◌∙◌, subst, ⊎_elim, arith}
+use Rattle.std.proofs.ByRecursion.{All-from_get_or, All-weaker}
+use Rattle.std.proofs.lemmas.Bool.{and_parts, and_from, or_cases, both_ways, le-leb, lt-ltb, eq-eqb}
+use Rattle.std.proofs.lemmas.List.{take-append-drop, map-append}
+use Rattle.std.specs.List.{AllByRecursion}
+use Rattle.std.specs.Option.{option_map, unwrap_or, ok_or}
+use mathlib.Core.List.{Permᴰ}
+use mathlib.Core.List.Permᴰ as perm
+use Rattle.measure.specs.Costs.{Fair}
+use Rattle.row.proofs.Fits.{setting_fits}
+use Rattle.row.proofs.Ranges.{ranged}
+use Rattle.row.specs.Records.{row_ahead, widths}
+use Rattle.row.specs.Sites.{row_sites}
+use Rattle.row.specs.Task.{changed}
+use Rattle.row.specs.declared.Cell.{Cell}
+use Rattle.row.specs.declared.Row.{Row}
+use Rattle.row.specs.declared.Spot.{Spot}
+use Rattle.floor.proofs.Best.{best_of, same_ok, not_ok}
+use Rattle.floor.proofs.Dearer.{place_dearer}
+use Rattle.floor.proofs.Defaults.{no_row}
+use Rattle.floor.proofs.Joining.{Placeable, placeable, place, joined_length, joined_widths, joined_listed, seated_formed, row_ready}
+use Rattle.floor.proofs.Keeping.{IsSet, seated_settled}
+use Rattle.floor.proofs.Known.{SeatKnown, all_known}
+use Rattle.floor.proofs.Listed.{is_row, Standing as Among, row_is, standing_at, standing_all, apart_one, row_parts, formed_listed}
+use Rattle.floor.proofs.Placed.{chosen_good, free_cell, seated_found, found_has, seated_row}
+use Rattle.floor.proofs.Ready.{ready_standing}
+use Rattle.floor.proofs.Resited.{resited_map, resited_length}
+use Rattle.floor.proofs.Risen.{rise_is}
+use Rattle.floor.proofs.Rowed.{ordered_rows}
+use Rattle.floor.proofs.Settling.{cells_pass, cells_in_order}
+use Rattle.floor.proofs.Tests.{pairs_all}
+use Rattle.floor.specs.Calls.{chosen, rise, seat_of, spot, where_answer, seated, refused_or, site_then, placed_on, place_answer, seated_on, seats_after_place}
+use Rattle.floor.specs.Formed.{every_pair, rows_formed, formed}
+use Rattle.floor.specs.Refusals.{any, has_sites, place_refusal}
+use Rattle.floor.specs.Rows.{share}
+use Rattle.floor.specs.Seats.{site_of, seats_on, cells_on, new_seat, joined, floor_cost}
+use Rattle.floor.specs.Settled.{Settled}
+use Rattle.floor.specs.declared.Placing.{Placing}
+use Rattle.floor.specs.declared.Refusal.{Refusal}
+use Rattle.floor.specs.declared.Refusal.TheVariants.{NoRoom, NotStanding}
+use Rattle.floor.specs.declared.Seat.{Seat}
+use Rattle.history.specs.Histories.{Standing, has_spot, row_at, with_cell, with_placed}
+use Rattle.history.specs.Law.{Granted}
+use Rattle.history.specs.Settings.{site_in, Setting, cost}
+use Rattle.history.proofs.Held.{standing_of}
+use Rattle.history.proofs.Perms.{all_perm, any_perm, setting_perm, cost_perm}
+use Rattle.history.proofs.Seated.{sites_are, listed_setting}
+use Rattle.history.proofs.Tables.{tables_hold}
+
+-- each of some rows stands among them
+pub all_among : (all : List Row) → AllByRecursion (Among all) all
+all_among all = All-from_get_or (Among all) all no_row (λ i within. standing_at all i no_row within)
+
+-- a row that stands among rows stands among them in whatever order
+pub among_perm : (rows all : List Row) → Permᴰ rows all → (row : Row) → Among all row → Among rows row
+among_perm rows all order row among = any_perm (is_row row) order ∙ among
+
+-- rows that lie at one spot share a site
+share_spot : (a b : Row) (at : Spot) → has_spot at a ≡ true → has_spot at b ≡ true → share a b ≡ true
+share_spot a b at p q = grind arith
+
+module _ (all : List Row) (well : rows_formed all ≡ true) (row : Row) (among : Among all row) (at : Spot) (has : has_spot at row ≡ true) where
+  -- a row that lies there is this one
+  same_spot : (r : Row) → Among all r → has_spot at r ≡ true → r ≡ row
+  same_spot r there own =
+      let apart = and_parts (every_pair row_ahead all) (every_pair (λ a b. not (share a b)) all) (row_parts all well).1 in
+      apart_one all r row (pairs_all (λ a b. not (share a b)) all apart.1) (share_spot r row at own has) there among
+
+  -- so the first that is found is
+  first_at : (rows : List Row) → AllByRecursion (Among all) rows → Among rows row → row_at rows at ≡ row
+  first_at [] each there = absurd (both_ways false refl there)
+  first_at (r ∷ rows) each there = by_test (has_spot at r) refl (first_at rows each.1)
+    where
+      by_test : (t : Bool) → has_spot at r ≡ t → (Among rows row → row_at rows at ≡ row) → cond t r (row_at rows at) ≡ row
+      by_test true is rest = same_spot r each.0 is
+      by_test false is rest =
+          rest
+          (⊎_elim
+          (λ here. absurd (both_ways (has_spot at r) is (subst (λ x. has_spot at x ≡ true) (sym (row_is row r here)) has)))
+          (λ later. later)
+          (or_cases (is_row row r) (any (is_row row) rows) there))
+
+-- the row at a spot of a standing row is that row, in whatever order the rows are told
+pub row_at_is : (rows all : List Row) → rows_formed all ≡ true → Permᴰ rows all → (row : Row) → Among all row → (at : Spot) → has_spot at row ≡ true → row_at rows at ≡ row
+row_at_is rows all well order row among at has =
+    first_at all well row among at has rows (all_perm (Among all) order (all_among all)) (among_perm rows all order row among)
+
+-- what is found is a seat
+some_seat : (o : Option Seat) → IsSome o → (s : Seat) × (o ≡ Some s)
+some_seat None e = let never : ◌≡◌ {A = ℕ} 0 1 = cc in absurd (omega arith)
+some_seat (Some s) e = (s, refl)
+
+-- where a new cell stands on a row that took it: the site that is answered, which is one of the row
+record Took (f : ℕ → ℕ → ℕ → ℕ) (seats : List Seat) (cell : Cell) (row : Row) : Type 0 where
+  site : ℕ
+  site_is : site_then cell.number (seated f seats cell row) ≡ site
+  answered : where_answer (seated f seats cell row) cell.number ≡ Ok (record { line = row.line; site = site })
+  inside : has_spot (record { line = row.line; site = site }) row ≡ true
+
+-- a site from left on and before right is one of the row
+inside_row : (row : Row) (site : ℕ) → row.left ≤ site → site < row.right → has_spot (record { line = row.line; site = site }) row ≡ true
+inside_row row site from to =
+    and_from (eqb row.line row.line) (leb row.left site && ltb site row.right) (eq-eqb row.line row.line refl)
+    (and_from (leb row.left site) (ltb site row.right) (le-leb row.left site from) (lt-ltb site row.right to))
+
+module _ (f : ℕ → ℕ → ℕ → ℕ) (fair : Fair f) (all : List Row) (seats : List Seat) (well : formed all seats ≡ true) (cell : Cell) (can : Placeable seats cell) where
+  -- a standing row that has sites for a cell takes it so
+  took : (row : Row) → Among all row → has_sites seats cell row ≡ true → Took f seats cell row
+  took row among fits =
+      let after : List Seat = seated f seats cell row in
+      let it = some_seat (seat_of cell.number after) (seated_found f seats cell row) in
+      let s : Seat = it.0 in
+      let own : s.row ≡ row = seated_row f seats cell row s can.fresh it.1 in
+      let known : SeatKnown s =
+      found_has SeatKnown cell.number after s
+      (All-weaker SeatKnown (λ t. eqb t.cell.number cell.number ≡ true → SeatKnown t) (λ t k _. k) after (all_known all after (seated_formed f fair all seats cell row well can among fits))) it.1 in
+      let wide = (ranged s.cell known.passes).some_width in
+      let from = known.left in
+      let to = known.right in
+      record {
+        site = s.site;
+        site_is = ap (λ o. unwrap_or (option_map site_of o) 0) it.1;
+        answered = ap (λ o. ok_or (option_map spot o) NotStanding) it.1 ∙ ap (λ r. Ok (record { line = r.line; site = s.site })) own;
+        inside = subst (λ r. has_spot (record { line = r.line; site = s.site }) r ≡ true) own (inside_row s.row s.site from (omega arith));
+      }
+
+-- a cell that joins the seats joins what stands
+joined_cells : (row : Row) (cell : Cell) (seats : List Seat) (ks : List Standing) → Permᴰ ks (map standing_of seats) → Permᴰ (with_cell cell row ks) (map standing_of (joined row cell seats))
+joined_cells row cell seats ks order =
+    let k : Standing = record { cell = cell; row = row } in
+    let n = place row cell seats in
+    let front : List Standing = map standing_of (take n seats) in
+    let back : List Standing = map standing_of (drop n seats) in
+    let old : map standing_of seats ≡ front ++ back = ap (map standing_of) (sym (take-append-drop n seats)) ∙ map-append standing_of (take n seats) (drop n seats) in
+    let new : map standing_of (joined row cell seats) ≡ front ++ (k ∷ back) = map-append standing_of (take n seats) (new_seat row cell ∷ drop n seats) in
+    subst (Permᴰ (k ∷ ks)) (sym new) (perm.trans (perm.cons refl (subst (Permᴰ ks) old order)) (perm.symm (perm.middle k front back)))
+
+-- setting the row changes neither cells nor rows, so it is the same once the row has taken the cell
+seated_cells : (f : ℕ → ℕ → ℕ → ℕ) (row : Row) (cell : Cell) (seats : List Seat) (ks : List Standing) → Permᴰ ks (map standing_of seats) → Permᴰ (with_cell cell row ks) (map standing_of (seated f seats cell row))
+seated_cells f row cell seats ks order =
+    subst (Permᴰ (with_cell cell row ks)) (sym (resited_map row standing_of (λ s x. refl) (row_sites f row (cells_on row (joined row cell seats))) (joined row cell seats))) (joined_cells row cell seats ks order)
+
+-- cells at the sites of their seats cost what the floor does
+seats_cost : (f : ℕ → ℕ → ℕ → ℕ) (at : ℕ → ℕ) (seats : List Seat) → AllByRecursion (λ s. at s.cell.number ≡ s.site) seats → cost f (map standing_of seats) at ≡ floor_cost f seats
+seats_cost f at [] same = refl
+seats_cost f at (s ∷ seats) same =
+    let rest = seats_cost f at seats same.1 in
+    let own : f s.cell.wanted.site s.cell.weight (at s.cell.number) ≡ f s.cell.wanted.site s.cell.weight s.site = ap (f s.cell.wanted.site s.cell.weight) same.0 in
+    omega arith
+
+-- so they do at the sites that where_is answers, in whatever order they are told
+pub answered_cost : (f : ℕ → ℕ → ℕ → ℕ) (rows : List Row) (seats : List Seat) → formed rows seats ≡ true → (ks : List Standing) → Permᴰ ks (map standing_of seats) → cost f ks (site_in (where_answer seats)) ≡ floor_cost f seats
+answered_cost f rows seats well ks order = cost_perm f order (site_in (where_answer seats)) ∙ seats_cost f (site_in (where_answer seats)) seats (sites_are rows seats well)
+
+-- what is known of a granted placing: the row that is chosen is the one at the spot that is answered, it took the cell, and the cell stands there
+pub record PlacedRow (f : ℕ → ℕ → ℕ → ℕ) (all : List Row) (seats : List Seat) (rows : List Row) (cell : Cell) (placing : Placing) : Type 0 where
+  pub row : Row
+  pub is : chosen f seats cell all ≡ Some row
+  pub row_is : row_at rows placing.spot ≡ row
+  pub spot_is : placing.spot ≡ record { line = row.line; site = site_then cell.number (seated f seats cell row) }
+  pub rises : placing.rise ≡ rise f seats cell row
+  pub after : seats_after_place f all seats cell ≡ seated f seats cell row
+  pub granted : place_refusal all seats cell ≡ None
+  pub stands : where_answer (seated f seats cell row) cell.number ≡ Ok placing.spot
+
+module _ (f : ℕ → ℕ → ℕ → ℕ) (fair : Fair f) (all : List Row) (seats : List Seat) (well : formed all seats ≡ true) (set : Settled f all seats) (rows : List Row) (order : Permᴰ rows all) (cell : Cell) (placing : Placing) where
+  -- where a row is chosen
+  on_row : place_refusal all seats cell ≡ None → (o : Option Row) → chosen f seats cell all ≡ o → placed_on f seats cell o ≡ Ok placing → PlacedRow f all seats rows cell placing
+  on_row none None is e = absurd (not_ok f all seats well cell NoRoom placing e)
+  on_row none (Some row) is e =
+      let good = chosen_good f all seats cell row is in
+      let new = took f fair all seats well cell (placeable seats cell (free_cell all seats cell none)) row good.stands good.fits in
+      let told : Placing = record { spot = record { line = row.line; site = site_then cell.number (seated f seats cell row) }; rise = rise f seats cell row } in
+      let same : placing ≡ told = sym (same_ok f all seats well cell told placing e) in
+      let spot_is : placing.spot ≡ told.spot = ap (λ p. p.spot) same in
+      let at : placing.spot ≡ record { line = row.line; site = new.site } = spot_is ∙ ap (λ x. record { line = row.line; site = x }) new.site_is in
+      record {
+        row = row;
+        is = is;
+        row_is = row_at_is rows all (formed_listed all seats well).well order row good.stands placing.spot (subst (λ p. has_spot p row ≡ true) (sym at) new.inside);
+        spot_is = spot_is;
+        rises = ap (λ p. p.rise) same;
+        after = ap (λ o. changed o (seated_on f seats cell (chosen f seats cell all)) seats) none ∙ ap (seated_on f seats cell) is;
+        granted = none;
+        stands = new.answered ∙ ap Ok (sym at);
+      }
+
+  -- where a check may refuse
+  or_refused : (o : Option Refusal) → place_refusal all seats cell ≡ o → refused_or o (placed_on f seats cell (chosen f seats cell all)) ≡ Ok placing → PlacedRow f all seats rows cell placing
+  or_refused None none e = on_row none (chosen f seats cell all) refl e
+  or_refused (Some refusal) none e = absurd (not_ok f all seats well cell refusal placing e)
+
+  -- a granted placing, by the row that is chosen
+  pub placed_row : place_answer f all seats cell ≡ Ok placing → PlacedRow f all seats rows cell placing
+  placed_row e = or_refused (place_refusal all seats cell) refl e
+
+  -- what stands then is what the seats hold then
+  pub placed_cells : place_answer f all seats cell ≡ Ok placing → (ks : List Standing) → Permᴰ ks (map standing_of seats) → Permᴰ (with_placed rows ks cell placing) (map standing_of (seats_after_place f all seats cell))
+  placed_cells e ks cells =
+      let p = placed_row e in
+      subst (λ r. Permᴰ (with_cell cell r ks) (map standing_of (seats_after_place f all seats cell))) (sym p.row_is)
+      (subst (λ l. Permᴰ (with_cell cell p.row ks) (map standing_of l)) (sym p.after) (seated_cells f p.row cell seats ks cells))
+
+-- what is known of a row on which a setting has the cell: it has sites for it, and the setting costs at least the row's rise more than the floor
+record Rival (f : ℕ → ℕ → ℕ → ℕ) (seats : List Seat) (cell : Cell) (row : Row) (total : ℕ) : Type 0 where
+  fits : has_sites seats cell row ≡ true
+  dearer : floor_cost f seats + rise f seats cell row ≤ total
+
+module _ (f : ℕ → ℕ → ℕ → ℕ) (fair : Fair f) (all : List Row) (seats : List Seat) (well : formed all seats ≡ true) (few : length seats ≤ 1024) (set : Settled f all seats) where
+  module _ (ks : List Standing) (cells : Permᴰ ks (map standing_of seats)) (cell : Cell) (none : place_refusal all seats cell ≡ None) (row : Row) (among : Among all row) (other : ℕ → ℕ) (setting : Setting (with_cell cell row ks) other) where
+    -- the cell can be placed
+    can : Placeable seats cell
+    can = placeable seats cell (free_cell all seats cell none)
+
+    -- the row has sites for it: its cells with the new one are in wanted order, and they have a setting
+    rival_fits : has_sites seats cell row ≡ true
+    rival_fits =
+        let joins : List Seat = joined row cell seats in
+        let listed = joined_listed row cell seats all (formed_listed all seats well) among can in
+        let own = listed_setting all joins listed other (setting_perm (perm.symm (joined_cells row cell seats ks cells)) other setting) row among in
+        let room = setting_fits row (cells_on row joins) (map (λ s. other s.cell.number) (seats_on row joins)) own (cells_pass all row joins listed) (cells_in_order all row joins listed) in
+        let wide = joined_widths row cell seats in
+        le-leb (widths (cells_on row seats) + cell.width) (row.right - row.left) (omega arith)
+
+    -- and once it has taken the cell, the tables hold the cheapest setting, which costs its rise more than before
+    rival : Rival f seats cell row (cost f (with_cell cell row ks) other)
+    rival =
+        let then : List Seat = seated f seats cell row in
+        let well_then = seated_formed f fair all seats cell row well can among rival_fits in
+        let less = can.few in
+        let long : length then ≡ length seats + 1 = resited_length row (row_sites f row (cells_on row (joined row cell seats))) (joined row cell seats) ∙ joined_length row cell seats in
+        let hold = tables_hold f fair all then well_then (omega arith) (seated_settled f fair all seats well set cell none row among rival_fits) in
+        let same : Permᴰ (with_cell cell row ks) (map standing_of then) = seated_cells f row cell seats ks cells in
+        let least = hold.cheapest other (setting_perm (perm.symm same) other setting) in
+        let told = cost_perm f same other in
+        let answered = answered_cost f all then well_then (map standing_of then) (perm.refl (map standing_of then)) in
+        let more = rise_is f row cell seats fair can.passes (row_ready all seats row well among few) (ready_standing all seats well cell can row among rival_fits) (standing_all (IsSet f seats) all row set among) in
+        record { fits = rival_fits; dearer = omega arith }
+
+  module _ (rows : List Row) (order : Permᴰ rows all) (ks : List Standing) (cells : Permᴰ ks (map standing_of seats)) (cell : Cell) (placing : Placing) where
+    -- what stands costs the rise more once the cell is placed
+    placed_cost : place_answer f all seats cell ≡ Ok placing → cost f (with_placed rows ks cell placing) (site_in (where_answer (seats_after_place f all seats cell))) ≡ floor_cost f seats + placing.rise
+    placed_cost e =
+        let p = placed_row f fair all seats well set rows order cell placing e in
+        let good = chosen_good f all seats cell p.row p.is in
+        let then : List Seat = seats_after_place f all seats cell in
+        let well_then : formed all then ≡ true =
+        subst (λ l. formed all l ≡ true) (sym p.after) (seated_formed f fair all seats cell p.row well (placeable seats cell (free_cell all seats cell p.granted)) good.stands good.fits) in
+        answered_cost f all then well_then (with_placed rows ks cell placing) (placed_cells f fair all seats well set rows order cell placing e ks cells)
+        ∙ place_dearer f fair all seats well set cell placing e
+
+    -- a granted placing is as the law says
+    pub tables_granted : place_answer f all seats cell ≡ Ok placing → Granted f rows ks (where_answer seats) cell placing (where_answer (seats_after_place f all seats cell))
+    tables_granted e =
+        let p = placed_row f fair all seats well set rows order cell placing e in
+        let best = best_of f seats cell all (ordered_rows all seats well) p.row p.is in
+        let each = all_perm (Among all) order (all_among all) in
+        let now = answered_cost f all seats well ks cells in
+        let then = placed_cost e in
+        let rises = p.rises in
+        record {
+          stands = subst (λ l. where_answer l cell.number ≡ Ok placing.spot) (sym p.after) p.stands;
+          rise = omega arith;
+          chosen = All-weaker (Among all) _
+              (λ r among other setting.
+              let it = rival ks cells cell p.granted r among other setting in
+              let least = standing_all (λ r. has_sites seats cell r ≡ true → rise f seats cell p.row ≤ rise f seats cell r) all r best.least among it.fits in
+              omega (arith, it.dearer))
+              rows each;
+          first = All-weaker (Among all) _
+              (λ r among ahead other setting.
+              let it = rival ks cells cell p.granted r among other setting in
+              let less = standing_all (λ r. has_sites seats cell r ≡ true → row_ahead r p.row ≡ true → rise f seats cell p.row < rise f seats cell r) all r best.first among it.fits (subst (λ x. row_ahead r x ≡ true) p.row_is ahead) in
+              omega (arith, it.dearer))
+              rows each;
+        }
