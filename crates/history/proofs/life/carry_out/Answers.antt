@@ -1,21 +1,7 @@
 use Rattle.std.proofs.Common.{◌+◌, refl, ◌∙◌, sym, subst, take, vec_items}
 use Rattle.std.proofs.lemmas.List.{take_more}
 use Rattle.history.proofs.Lived.{Lived, lived_empty, lived_more}
-use Rattle.history.proofs.Unique.{no_slack}
 use Rattle.history.proofs.life.carry_out.Goals as goal
-
--- that the law leaves no slack has nothing to do with what came of the calls
-pub returns-in_err-floor-clause-no_slack : goal.returns-in_err-floor-clause-no_slack
-returns-in_err-floor-clause-no_slack g c = no_slack
-
-pub returns-in_err-events-clause-no_slack : goal.returns-in_err-events-clause-no_slack
-returns-in_err-events-clause-no_slack g c = no_slack
-
-pub returns-in_err-push-clause-no_slack : goal.returns-in_err-push-clause-no_slack
-returns-in_err-push-clause-no_slack g c = no_slack
-
-pub returns-clause-no_slack : goal.returns-clause-no_slack
-returns-clause-no_slack g c = no_slack
 
 pub loop-call-init : goal.loop-call-init
 loop-call-init g c =
