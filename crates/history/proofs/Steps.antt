@@ -94,7 +94,7 @@ if_ok P (Ok x) give = give x refl
 if_ok P (Err failure) give = tt
 
 -- an event tells the call that it is of
-call_is : (f : ℕ → ℕ → ℕ → ℕ) (rows : List Row) (seats : List Seat) (call : Call) → call_of (event_of f rows seats call) ≡ call
+pub call_is : (f : ℕ → ℕ → ℕ → ℕ) (rows : List Row) (seats : List Seat) (call : Call) → call_of (event_of f rows seats call) ≡ call
 call_is f rows seats (AddRow row) = refl
 call_is f rows seats (Place cell) = refl
 call_is f rows seats (Try cell) = refl

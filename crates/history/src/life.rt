@@ -1,7 +1,9 @@
 // A floor's life: any list of calls, made on a floor that began empty.
-ghost use Rattle.std.specs.Prelude.{IfOk};
+ghost use Rattle.std.specs.Prelude.{◌≡◌, IfOk};
+ghost use Rattle.floor.specs.State.{measure_of};
 ghost use Rattle.history.specs.Lives.{Lawful};
 ghost use Rattle.history.specs.Slack.{NoSlack};
+ghost use Rattle.history.specs.Worked.{WorkedOut};
 
 use crate::call::{Call, Event};
 use floor::Floor;
@@ -15,10 +17,18 @@ pub struct Life<M> {
     pub events: Vec<Event>,
 }
 
-// Makes any list of calls on an empty floor with a measure. The floor then obeys the law.
-pub fn carry_out<M: Measure + Drop>(heap: Global, measure: M, calls: &[Call]) -> Result<Life<M>, AllocError>
+// Makes any list of calls on an empty floor with a measure; the floor then obeys the law. The other two clauses say what the law is: it leaves no slack, and by the definitions
+// that it and the floor's calls are stated in, twelve settings worked by hand come out as worked.
+#[tactic(auto, using(crate::proofs::Unique::no_slack, crate::proofs::Worked::worked_out))]
+pub fn carry_out<M: Measure + Drop>(
+    heap: Global,
+    measure: M,
+    calls: &[Call],
+) -> Result<Life<M>, AllocError>
     ensures law { IfOk result (Lawful (M.price measure) calls.now) }
+    ensures same { IfOk result (λ life. measure_of life.floor ≡ measure) }
     ensures no_slack { NoSlack }
+    ensures worked { WorkedOut }
 {
     let mut floor = Floor::new(heap, measure)?;
     let mut events = Vec::with_capacity(heap, calls.len())?;
