@@ -67,37 +67,11 @@ module _ (f : ℕ → ℕ → ℕ → ℕ) (fair : Fair f) (rows : List Row) (be
       set
 
 module _ (f : ℕ → ℕ → ℕ → ℕ) (fair : Fair f) (rows : List Row) (seats : List Seat) (well : formed rows seats ≡ true) (set : Settled f rows seats) where
-<<<<<<< HEAD
-  seated_settled : (cell : Cell) → place_refusal rows seats cell ≡ None → (row : Row) → Standing rows row → has_sites seats cell row ≡ true → Settled f rows (seated f seats cell row)
+  pub seated_settled : (cell : Cell) → place_refusal rows seats cell ≡ None → (row : Row) → Standing rows row → has_sites seats cell row ≡ true → Settled f rows (seated f seats cell row)
   seated_settled cell none row stands fits =
       let can = placeable seats cell (free_cell rows seats cell none) in
       let own = ready_fitting row (cells_on row (joined row cell seats)) (ready_standing rows seats well cell can row stands fits) in
       row_settled f fair rows seats (joined row cell seats) row own (joined_others row cell seats) (formed_listed rows seats well).well stands set
-=======
-  module _ (cell : Cell) (none : place_refusal rows seats cell ≡ None) (row : Row) (stands : Standing rows row) (fits : has_sites seats cell row ≡ true) where
-    -- the row that took the cell is set
-    own_set : IsSet f (seated f seats cell row) row
-    own_set =
-        let cs = cells_on row (joined row cell seats) in
-        resited_sites_on row (row_sites f row cs) (joined row cell seats) (sites_long f fair row (joined row cell seats) (ready_standing rows seats well cell (placeable seats cell (free_cell rows seats cell none)) row stands fits))
-        ∙ sym (ap (row_sites f row) (resited_cells_on row (row_sites f row cs) (joined row cell seats)))
-
-    -- another is as it was
-    other_set : (r : Row) → same_row r row ≡ false → IsSet f seats r → IsSet f (seated f seats cell row) r
-    other_set r other is =
-        set_same f r seats (seated f seats cell row)
-        (resited_others row r other (row_sites f row (cells_on row (joined row cell seats))) (joined row cell seats) ∙ joined_others row cell seats r other) is
-
-    pub seated_settled : Settled f rows (seated f seats cell row)
-    seated_settled =
-        all_standing (IsSet f seats) (IsSet f (seated f seats cell row)) rows
-        (λ r there is.
-        ⊎_elim
-        (λ same. subst (IsSet f (seated f seats cell row)) (sym (standing_one rows (formed_listed rows seats well).well r row there stands same)) own_set)
-        (λ other. other_set r other is)
-        (cases_Bool (same_row r row)))
-        set
->>>>>>> f3a4db7d9d2664235226b54b87c7aa626ce791c7
 
   on_settled : (cell : Cell) → place_refusal rows seats cell ≡ None → (o : Option Row) → chosen f seats cell rows ≡ o → Settled f rows (seated_on f seats cell o)
   on_settled cell none None is = set

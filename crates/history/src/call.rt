@@ -39,8 +39,8 @@ impl Call {
         match self {
             Call::AddRow(row) => Event::Added(row, floor.add_row(row)),
             Call::Place(cell) => Event::Placed(cell, floor.place(cell)),
-            Call::Try(cell) => Event::Tried(cell, floor.place(cell)),
-            Call::Withdraw(number) => Event::Withdrawn(number, floor.where_is(number)),
+            Call::Try(cell) => Event::Tried(cell, floor.try_place(cell)),
+            Call::Withdraw(number) => Event::Withdrawn(number, floor.withdraw(number)),
         }
     }
 }
