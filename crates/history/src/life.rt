@@ -16,7 +16,11 @@ pub struct Life<M> {
 }
 
 // Makes any list of calls on an empty floor with a measure. The floor then obeys the law.
-pub fn carry_out<M: Measure + Drop>(heap: Global, measure: M, calls: &[Call]) -> Result<Life<M>, AllocError>
+pub fn carry_out<M: Measure + Drop>(
+    heap: Global,
+    measure: M,
+    calls: &[Call],
+) -> Result<Life<M>, AllocError>
     ensures law { IfOk result (Lawful (M.price measure) calls.now) }
     ensures no_slack { NoSlack }
 {
