@@ -90,6 +90,7 @@ pub record Found (f : ℕ → ℕ → ℕ → ℕ) (seats : List Seat) (number :
   pub ready : Ready s.row (cells_on s.row (without s.cell.number seats))
   pub after : settled f s.row (without s.cell.number seats) ≡ seats_after_withdraw f seats number
 
+-- from what the program looked up
 pub found_known : (f : ℕ → ℕ → ℕ → ℕ) (rows : List Row) (seats : List Seat) (number : ℕ) (s : Seat) {looked : Option Seat} {count : ℕ} → formed rows seats ≡ true → count ≤ 1024 → count ≡ length seats → looked ≡ seat_of number seats → looked ≡ Some s → Found f seats number s
 found_known f rows seats number s well few counted finds some =
     let found = sym finds ∙ some in
@@ -100,10 +101,12 @@ found_known f rows seats number s well few counted finds some =
     }
 
 module _ (f : ℕ → ℕ → ℕ → ℕ) (fair : Fair f) (rows : List Row) (seats : List Seat) (well : formed rows seats ≡ true) where
+  -- by what is found of a number: a floor stays well formed once that seat is taken out and its row set ..
   less_formed : (number : ℕ) (o : Option Seat) → seat_of number seats ≡ o → formed rows (seats_less f seats number o) ≡ true
   less_formed number None is = well
   less_formed number (Some s) is = set_formed f fair rows (without number seats) s.row (without_formed rows seats well number s is) (found_stands rows seats well number s is)
 
+  -- .. and one whose rows are set stays so
   less_settled : Settled f rows seats → (number : ℕ) (o : Option Seat) → seat_of number seats ≡ o → Settled f rows (seats_less f seats number o)
   less_settled set number None is = set
   less_settled set number (Some s) is =

@@ -94,6 +94,7 @@ module _ {f : ℕ → ℕ → ℕ → ℕ} (fair : Fair f) (row : Row) (cell : C
   abbrev sites : List ℕ
   sites = row_sites f row (cells_on row (joined row cell seats))
 
+  -- so many seats of the row are before it, once it has joined them
   place_is : before row cell.number (joined row cell seats) ≡ place
   place_is =
       let k : Seat = new_seat row cell in
@@ -101,9 +102,11 @@ module _ {f : ℕ → ℕ → ℕ → ℕ} (fair : Fair f) (row : Row) (cell : C
       ap (prefix_len (other row cell.number)) (joined_own row cell seats ordered)
       ∙ passes_before seat_ahead k (other row cell.number) (seats_on row seats) (ap not (eq-eqb cell.number cell.number refl)) (all_kept_by (on_row row) (λ s. not (eqb s.cell.number cell.number) ≡ true) seats differ)
 
+  -- each of them has a site
   long : length sites ≡ length (seats_on row (joined row cell seats))
   long = sites_long f fair row (joined row cell seats) (ready_fitting row (cells_on row (joined row cell seats)) ready)
 
+  -- the site at the new cell's place is that of its seat
   pub site_at : get_or sites place 0 ≡ site_then cell.number (seated f seats cell row)
   site_at =
       let k : Seat = new_seat row cell in
@@ -112,6 +115,7 @@ module _ {f : ℕ → ℕ → ℕ → ℕ} (fair : Fair f) (row : Row) (cell : C
       let own : AllByRecursion Own (joined row cell seats) = subst (AllByRecursion Own) (sym (inserted_is seat_ahead k seats)) (put_all seat_ahead k Own seats (λ _. same_refl row) old) in
       sym (site_of_number row cell.number sites (joined row cell seats) long own ∙ ap (λ n. get_or sites n 0) place_is)
 
+  -- and there is one
   pub place_within : place < length sites
   place_within =
       let k : Seat = new_seat row cell in
@@ -122,11 +126,12 @@ module _ {f : ℕ → ℕ → ℕ → ℕ} (fair : Fair f) (row : Row) (cell : C
       let each = long in
       omega arith
 
--- the site that the program reads: the row's cells gathered with the new one, their sites found, and the new cell's place looked up among the row's seats
+-- a site at a place of some sites that is the new cell's
 pub record Tried (f : ℕ → ℕ → ℕ → ℕ) (row : Row) (cell : Cell) (seats : List Seat) (sites : List ℕ) (at : ℕ) : Type 0 where
   pub within : at < length sites
   pub is : get_or sites at 0 ≡ site_then cell.number (seated f seats cell row)
 
+-- as the program comes to it
 pub tried : {f : ℕ → ℕ → ℕ → ℕ} (fair : Fair f) (row : Row) (cell : Cell) (seats : List Seat) {slice : List Seat} {key : Seat} {gathered cells : List Cell} {sites : List ℕ} {at : ℕ} → Ready row (cells_on row (joined row cell seats)) → Ordered seat_ahead seats → stands cell.number seats ≡ false →
     gathered ≡ cells_on row (joined row cell seats) → cells ≡ gathered → sites ≡ row_sites f row cells → slice ≡ seats_on row seats → key ≡ new_seat row cell → at ≡ rank_of seat_ahead slice key → Tried f row cell seats sites at
 tried {f} fair row cell seats {slice} {key} {gathered} {cells} {sites} {at} ready ordered fresh gather same set own new finds =

@@ -37,7 +37,7 @@ impl<M: Measure> Offer<'_, M> {
     {
         let cells = self.seats.gather_with(row, self.cell);
         let cells = cells.as_slice();
-        // No heap here: sites on the stack, lent to `set`. What `Seats::settle` shares is `set_ready`: it keeps the sites and this the cost, so that a function for both would hand out both, by copy.
+        // No heap here: sites on the stack, lent to `set`. What `Seats::settle` and `Seats::site_with` share is `set_ready`: they keep sites and this the cost, so that a function for all would hand out both, by copy.
         let mut sites = [0; MOST_CELLS];
         let sites = &mut sites[0..cells.len()];
         set_ready(self.measure, row, cells, sites)

@@ -63,9 +63,11 @@ module _ (seats : List Seat) where
   stands_map : (number : ℕ) → stands_by cell_of row_of number all_standing ≡ stands number seats
   stands_map number = any_map standing_of (λ k. eqb k.cell.number number) seats
 
+  -- the cells on a row
   cells_map : (row : Row) → cells_by cell_of row_of row all_standing ≡ cells_on row seats
   cells_map row = ap (map cell_of) (kept_map standing_of (λ k. same_row k.row row) seats) ∙ map-map cell_of standing_of (seats_on row seats)
 
+  -- whether a row has sites
   has_sites_map : (cell : Cell) (row : Row) → has_sites_by cell_of row_of all_standing cell row ≡ has_sites seats cell row
   has_sites_map cell row = ap (λ cs. leb (widths cs + cell.width) (row.right - row.left)) (cells_map row)
 
@@ -94,6 +96,7 @@ module _ (f : ℕ → ℕ → ℕ → ℕ) (all : List Row) (seats : List Seat) 
   row_checked cell None is some = absurd (both_ways (any (has_sites seats cell) all) (any_none (has_sites seats cell) all (none_fits f seats cell all is)) some)
   row_checked cell (Some row) is some = refl
 
+  -- a placing is refused as its checks say, whatever they say
   refused_checked : (cell : Cell) (o : Option Refusal) → place_refusal all seats cell ≡ o → checked (refused_or o (placed_on f seats cell (chosen f seats cell all))) ≡ o
   refused_checked cell None is =
       let rows = both (cell_refusal seats cell) (check (any (has_sites seats cell) all) NoRoom None) is in
@@ -129,6 +132,7 @@ module _ (f : ℕ → ℕ → ℕ → ℕ) (all : List Row) (seats : List Seat) 
   none_map : AllByRecursion (λ row. has_sites seats cell row ≡ false) all → AllByRecursion (λ row. has_sites_by cell_of row_of (map standing_of seats) cell row ≡ false) all
   none_map = subst (λ test. AllByRecursion (λ row. test row ≡ false) all) (sym (fun_ext (has_sites_map seats cell)))
 
+  -- and back
   map_none : AllByRecursion (λ row. has_sites_by cell_of row_of (map standing_of seats) cell row ≡ false) all → AllByRecursion (λ row. has_sites seats cell row ≡ false) all
   map_none = subst (λ test. AllByRecursion (λ row. test row ≡ false) all) (fun_ext (has_sites_map seats cell))
 

@@ -100,13 +100,15 @@ widths_perm (Permᴰ.swap e f) =
     omega arith
 widths_perm (Permᴰ.trans d e) = widths_perm d ∙ widths_perm e
 
--- two cells that share no site do so both ways, and so do two in wanted order, on one row
+-- two that are on one row are so both ways
 row_turn : (k l : Standing) → OnOneRow k l → OnOneRow l k
 row_turn k l on = same_sym k.row l.row on
 
+-- two that share no site, where they are on one row, do so both ways
 clear_turn : (at : ℕ → ℕ) (k l : Standing) → (OnOneRow k l → Clear (placed at k) (placed at l)) → OnOneRow l k → Clear (placed at l) (placed at k)
 clear_turn at k l clear on = λ s p q. clear (row_turn l k on) s q p
 
+-- and so do two in wanted order
 rising_turn : (at : ℕ → ℕ) (k l : Standing) → (OnOneRow k l → Rising (placed at k) (placed at l)) → OnOneRow l k → Rising (placed at l) (placed at k)
 rising_turn at k l rising on = let both = rising (row_turn l k on) in (both.1, both.0)
 

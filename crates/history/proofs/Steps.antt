@@ -43,12 +43,14 @@ insert_perm k xs n = subst (λ l. Permᴰ (k ∷ l) (insert xs n k)) (take-appen
 
 module _ (f : ℕ → ℕ → ℕ → ℕ) (all : List Row) (seats : List Seat) (cell : Cell) where
   module _ (fair : Fair f) (well : formed all seats ≡ true) where
+    -- whether a row is chosen or none
     on_formed : place_refusal all seats cell ≡ None → (o : Option Row) → chosen f seats cell all ≡ o → formed all (seated_on f seats cell o) ≡ true
     on_formed none None is = well
     on_formed none (Some row) is =
         let good = chosen_good f all seats cell row is in
         seated_formed f fair all seats cell row well (placeable seats cell (free_cell all seats cell none)) good.stands good.fits
 
+    -- whatever the checks say
     after_formed : (o : Option Refusal) → place_refusal all seats cell ≡ o → formed all (changed o (seated_on f seats cell (chosen f seats cell all)) seats) ≡ true
     after_formed None is = on_formed is (chosen f seats cell all) refl
     after_formed (Some refusal) is = well
@@ -58,6 +60,7 @@ module _ (f : ℕ → ℕ → ℕ → ℕ) (all : List Row) (seats : List Seat) 
     place_formed = after_formed (place_refusal all seats cell) refl
 
   module _ (room : length seats ≤ 1024) where
+    -- whether a row is chosen or none
     on_few : place_refusal all seats cell ≡ None → (o : Option Row) → length (seated_on f seats cell o) ≤ 1024
     on_few none None = room
     on_few none (Some row) =
@@ -66,6 +69,7 @@ module _ (f : ℕ → ℕ → ℕ → ℕ) (all : List Row) (seats : List Seat) 
         let more = resited_length row (row_sites f row (cells_on row (joined row cell seats))) (joined row cell seats) ∙ joined_length row cell seats in
         omega arith
 
+    -- whatever the checks say
     after_few : (o : Option Refusal) → place_refusal all seats cell ≡ o → length (changed o (seated_on f seats cell (chosen f seats cell all)) seats) ≤ 1024
     after_few None is = on_few is (chosen f seats cell all)
     after_few (Some refusal) is = room
@@ -101,9 +105,11 @@ call_is f rows seats (Try cell) = refl
 call_is f rows seats (Withdraw number) = refl
 
 module _ (f : ℕ → ℕ → ℕ → ℕ) (fair : Fair f) (history : List Event) (rows : List Row) (seats : List Seat) (well : formed rows seats ≡ true) (few : length seats ≤ 1024) (obeys : Obeys f history rows seats) where
+  -- the rows that the history says stand
   abbrev R : List Row
   R = rows_in history
 
+  -- and the cells
   abbrev K : List Standing
   K = standing_in history
 
@@ -145,6 +151,7 @@ module _ (f : ℕ → ℕ → ℕ → ℕ) (fair : Fair f) (history : List Event
   full_step : (cell : Cell) → FullExactly R K cell (place_answer f rows seats cell)
   full_step cell = full_perm obeys.held.rows_are obeys.held.cells_are cell (place_answer f rows seats cell) (full_exactly f rows seats cell)
 
+  -- a granted one too
   granted_step : (cell : Cell) (placing : Placing) → place_answer f rows seats cell ≡ Ok placing → Granted f R K (where_answer seats) cell placing (where_answer (seats_after_place f rows seats cell))
   granted_step cell placing is = tables_granted f fair rows seats well few obeys.set R obeys.held.rows_are K obeys.held.cells_are cell placing is
 

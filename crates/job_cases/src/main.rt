@@ -9,11 +9,16 @@ use std::alloc::{AllocError, Global};
 use std::io;
 use std::io::{Read, Write};
 
-// The value of a hexadecimal digit, and 0 for any other byte.
+// The value of a hexadecimal digit, in upper case, and 0 for any other byte.
 fn digit_of(byte: u8) -> u8
     ensures { result < 16 }
 {
-    char::from(byte).to_digit(16).unwrap_or(0) as u8
+    // Not `to_digit`: it takes lower case too, which this program has always read as 0, and still does.
+    match byte {
+        b'0'..=b'9' => byte - b'0',
+        b'A'..=b'F' => byte - b'A' + 10,
+        _ => 0,
+    }
 }
 
 // Adds the bytes of a word, two digits each.

