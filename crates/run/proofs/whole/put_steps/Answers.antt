@@ -1,4 +1,4 @@
-use Rattle.std.proofs.Common.{◌≡◌, ℕ, ◌+◌, ◌-◌, ◌<◌, ◌≤◌, Bool, true, false, cond, suc, ◌++◌, length, Ok, None, Result, vec_items, refl, sym, ap, subst, ◌∙◌, append-nil, arith}
+use Rattle.std.proofs.Common.{◌≡◌, ℕ, ◌+◌, ◌-◌, ◌<◌, ◌≤◌, Bool, true, false, cond, suc, ◌++◌, Ok, None, Result, vec_items, refl, sym, ap, subst, ◌∙◌, append-nil, arith}
 use Rattle.measure.specs.Names.{named_price}
 use Rattle.run.specs.State.{State, measure_in, state}
 use Rattle.run.specs.Texts.{enough, run_end, steps_text}

@@ -1,4 +1,4 @@
-use Rattle.std.proofs.Common.{◌≡◌, ℕ, ◌+◌, ◌≤◌, ◌++◌, length, vec_items}
+use Rattle.std.proofs.Common.{◌≡◌, ℕ, ◌≤◌, ◌++◌, length, vec_items}
 use Rattle.measure.specs.Names.{named_price}
 use Rattle.run.proofs.Turns.{left}
 use Rattle.run.specs.State.{measure_in, state}
