@@ -1,23 +1,31 @@
 -- The floor at a job's end: the calls that its records ask for are made one after another, so it obeys the law for them.
 --   calls_are     what came of the calls is of the calls that the records ask for
---   law_at_end    the floor at the end obeys the law for what came of them
-use Rattle.std.proofs.Common.{◌≡◌, ℕ, zero, suc, Bool, true, false, cond, List, [], ◌∷◌, ◌++◌, map, reverse, Some, None, Ok, Err, Option, Result, refl, sym, ap, ◌∙◌, subst, append_assoc, append-nil}
+--   lives_at_end  the floor at the end obeys the law for what came of them; law_at_end: the same of a job's bytes
+use Rattle.std.proofs.Common.{◌≡◌, ℕ, zero, suc, Bool, true, false, cond, List, [], ◌∷◌, ◌++◌, map, reverse, Some, None, Ok, Err, Option, Result, MatchResult, refl, sym, ap, ◌∙◌, subst, append_assoc, append-nil}
 use Rattle.std.proofs.lemmas.List.{reverse-append}
 use Rattle.measure.specs.Costs.{Fair}
+use Rattle.measure.specs.Names.{named_price, named_fair}
+use Rattle.measure.specs.declared.name.MeasureName.{MeasureName}
+use Rattle.floor.specs.Calls.{where_answer}
+use Rattle.floor.specs.State.{measure_of, seats_of}
+use Rattle.floor.specs.declared.floor.Floor.{Floor}
 use Rattle.floor.specs.declared.Refusal.{Refusal}
 use Rattle.history.specs.Events.{event_of, rows_then, seats_then}
 use Rattle.history.specs.Histories.{call_of}
 use Rattle.history.specs.declared.call.Event.{Event}
 use Rattle.history.specs.declared.call.Event.TheVariants.{Added, Placed, Tried, Withdrawn}
-use Rattle.history.proofs.Lives.{Lives, lives_step}
+use Rattle.history.specs.Law.{Law}
+use Rattle.history.proofs.Lives.{Lives, lives_empty, lives_step}
 use Rattle.history.proofs.Steps.{call_is}
 use Rattle.job.specs.Format.{Content}
+use Rattle.job.specs.Opening.{Opened, open_answer}
 use Rattle.job.specs.Reading.{next_answer, next_standing}
 use Rattle.job.specs.declared.record.Fault as unread
-use Rattle.run.specs.Jobs.{calls_by, record_calls, events_by, run_events}
-use Rattle.run.specs.State.{State}
+use Rattle.run.proofs.Turns.{last_turn}
+use Rattle.run.specs.Jobs.{AtEnd, JobLaw, calls_by, record_calls, events_by, run_events, job_events}
+use Rattle.run.specs.State.{State, started}
 use Rattle.run.specs.Steps.{state_left}
-use Rattle.run.specs.Texts.{run_end}
+use Rattle.run.specs.Texts.{enough, run_end}
 use Rattle.run.specs.Turns.{Said, ended_by, answer_said, event_said, event_in, call_in, name_in, passed, turn, turn_by}
 
 -- an answer of the floor does not end a job
@@ -36,12 +44,9 @@ onto_more : (event : Event) (events history : List Event) → reverse (event ∷
 onto_more event events history = ap (λ es. es ++ history) (reverse-append (event ∷ []) events) ∙ append_assoc (reverse events) (event ∷ []) history
 
 module _ (price : ℕ → ℕ → ℕ → ℕ) where
-  -- a job that has ended stays as it is
-  end_stays : (most : ℕ) (s : State) → s.ended ≡ true → run_end price most s ≡ s
-  end_stays zero s is = refl
-  end_stays (suc most) s is =
-      let none : turn price s ≡ None = ap (λ b. cond b None (turn_by price s (next_answer s.reader))) is in
-      ap (λ o. run_end price most (state_left s o)) none ∙ end_stays most s is
+  -- where a job has ended there is no step
+  no_turn : (s : State) → s.ended ≡ true → turn price s ≡ None
+  no_turn s is = ap (λ b. cond b None (turn_by price s (next_answer s.reader))) is
 
   -- the state after a record
   abbrev after : State → Content → State
@@ -71,18 +76,26 @@ module _ (price : ℕ → ℕ → ℕ → ℕ) where
         subst (λ b. Lives price (reverse (cond b [] (events_by price s (run_events price most (state_left s (cond b None (turn_by price s (next_answer s.reader))))) (next_answer s.reader))) ++ history)
         (run_end price most (state_left s (cond b None (turn_by price s (next_answer s.reader))))).rows (run_end price most (state_left s (cond b None (turn_by price s (next_answer s.reader))))).seats)
         (sym on)
-        (by_answer (next_answer s.reader) (λ c. lives_at_end most (after s c)) )
+        (by_answer (next_answer s.reader) refl (λ c. lives_at_end most (after s c)))
       where
-        by_answer : (a : Result (Option Content) unread.Fault)
+        by_answer : (a : Result (Option Content) unread.Fault) → next_answer s.reader ≡ a
             → ((c : Content) (h : List Event) → (after s c).ended ≡ false → Lives price h (after s c).rows (after s c).seats → Lives price (reverse (run_events price most (after s c)) ++ h) (run_end price most (after s c)).rows (run_end price most (after s c)).seats)
             → Lives price (reverse (events_by price s (run_events price most (state_left s (turn_by price s a))) a) ++ history) (run_end price most (state_left s (turn_by price s a))).rows (run_end price most (state_left s (turn_by price s a))).seats
-        by_answer (Ok None) rest = subst (λ (u : State). Lives price history u.rows u.seats) (sym (ends most)) lives
-          where
-            ends : (n : ℕ) → run_end price n s ≡ s
-            ends n = ?
-        by_answer (Ok (Some c)) rest =
+        by_answer (Ok None) is rest =
+            let none : turn price s ≡ None = (λ i. cond (on i) None (turn_by price s (is i))) in
+            subst (λ (u : State). Lives price history u.rows u.seats) (sym (last_turn price s most none).1) lives
+        by_answer (Ok (Some c)) is rest =
             let later = rest c (event_in price s c ∷ history) (goes_on s.reader.index (name_in c) (event_in price s c)) (lives_step price fair history s.rows s.seats lives (call_in c)) in
             subst (λ h. Lives price h (run_end price most (after s c)).rows (run_end price most (after s c)).seats) (sym (onto_more (event_in price s c) (run_events price most (after s c)) history)) later
-        by_answer (Err fault) rest =
+        by_answer (Err fault) is rest =
             let last : State = state_left s (turn_by price s (Err fault)) in
-            subst (λ (u : State). Lives price history u.rows u.seats) (sym (end_stays most last refl)) lives
+            subst (λ (u : State). Lives price history u.rows u.seats) (sym (last_turn price last most (no_turn last refl)).1) lives
+
+-- the law of the floor at the end of a job that was opened
+pub law_at_end : (bytes : List ℕ) (job : Opened) (floor : Floor MeasureName) → open_answer bytes ≡ Ok job → measure_of floor ≡ job.measure → seats_of floor ≡ (run_end (named_price job.measure) (enough job.bytes) (started job.bytes [] [])).seats → AtEnd bytes (Some floor)
+law_at_end bytes job floor opens measure seats =
+    let price = named_price job.measure in
+    let start : State = started job.bytes [] [] in
+    let lives = lives_at_end price (named_fair job.measure) (enough job.bytes) start [] refl (lives_empty price (named_fair job.measure)) in
+    let obeys : Law price (reverse (job_events job)) (where_answer (seats_of floor)) = subst (λ ss. Law price (reverse (job_events job)) (where_answer ss)) (sym seats) (subst (λ h. Law price h (where_answer (run_end price (enough job.bytes) start).seats)) (append-nil (reverse (job_events job))) lives.obeys.law) in
+    subst (λ answer. MatchResult answer (λ (j : Opened). JobLaw j floor) (λ fault. ⊥)) (sym opens) (record { measure = measure; made = calls_are price (enough job.bytes) start refl; law = obeys })

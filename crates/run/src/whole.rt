@@ -64,7 +64,11 @@ fn put_line(out: &mut Vec<u8>, line: Line<'_>) -> Result<(), AllocError>
 
 // Carries out a whole job, and adds a line for each record, a line for each cell that stands then, and one for what they cost.
 // A job that cannot be opened gives only the line that says so. Answers the floor that is left, which obeys the law, or none where the job cannot be opened.
-pub fn carry_out(heap: Global, out: &mut Vec<u8>, bytes: &[u8]) -> Result<Option<Floor<MeasureName>>, AllocError>
+pub fn carry_out(
+    heap: Global,
+    out: &mut Vec<u8>,
+    bytes: &[u8],
+) -> Result<Option<Floor<MeasureName>>, AllocError>
     ensures lines { Appends out.old result (job_text bytes.now) out.new }
     ensures law { IfOk result (AtEnd bytes.now) }
 {

@@ -71,7 +71,11 @@ fn event_line<'a>(event: Event, index: usize, name: Option<&'a [u8]>) -> Result<
 
 impl<'a, M: Measure + Drop> Run<'a, M> {
     // Carries out a record on the floor: its line, or why its call was refused.
-    pub(crate) fn carry_out_record(&mut self, index: usize, found: Record<'a>) -> Result<Line<'a>, Fault>
+    pub(crate) fn carry_out_record(
+        &mut self,
+        index: usize,
+        found: Record<'a>,
+    ) -> Result<Line<'a>, Fault>
         requires index { index ≤ 65535 }
         ensures said { told (name_in (content found.entry)) result
             ≡ event_said index (name_in (content found.entry)) (event_of (M.price (measure_in self.old)) (state self.old).rows (state self.old).seats (call_in (content found.entry))) }
