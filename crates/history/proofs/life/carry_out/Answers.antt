@@ -1,6 +1,6 @@
 use Rattle.std.proofs.Common.{◌+◌, refl, ◌∙◌, sym, subst, take, vec_items}
 use Rattle.std.proofs.lemmas.List.{take_more}
-use Rattle.history.proofs.Lived.{Lived, lived_empty, lived_more}
+use Rattle.history.proofs.Lives.{Lived, lived_empty, lived_more}
 use Rattle.history.proofs.life.carry_out.Goals as goal
 
 pub loop-call-init : goal.loop-call-init
