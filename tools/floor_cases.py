@@ -1,14 +1,14 @@
 #!/usr/bin/env python3
-"""Writes the table of floor calls that crates/floor_cases runs, what must come out of it, and what `legalize` must print for
-the example tile.
+"""Writes the table of floor calls that crates/floor_cases runs, and what must come out of it.
 
-The expected lines come from the rules of docs/RULES.md and docs/FORMAT.md and not from the program: a floor is rows and cells;
-a row's cheapest and leftmost setting is found by a table over cells and sites (tools/row_cases.py; no cluster is formed), and
-a cell goes to the row whose cheapest cost rises least, the first of equal ones in row order.
+The expected lines come from the rules of docs/RULES.md and not from the program: a floor is rows, and the cells on each; a row's
+cheapest and leftmost setting is found by a table over cells and sites (tools/row_cases.py; no cluster is formed), and a cell goes
+to the row whose cheapest cost rises least, the first of equal ones in row order. A try answers so too and changes nothing; a
+withdrawn cell is taken off its row. The sites are not kept: they are worked out anew from the cells that stand.
 
-    tools/floor_cases.py      writes crates/floor_cases/stdin, its stdout, and crates/legalize/stdout (from its stdin)
+    tools/floor_cases.py      writes crates/floor_cases/stdin and its stdout
 """
-import pathlib, random, struct
+import pathlib, random
 from itertools import permutations, product
 from row_cases import cheapest, price
 
@@ -287,58 +287,16 @@ def cases():
         yield at_random(draw)
 
 
-def write_cases():
-    table, said = [], []
-    for measure, calls in cases():
-        table.append(f"floor {measure}")
-        said.append(f"floor {measure}")
+def main():
+    floors, table, said = list(cases()), [], []
+    for measure, calls in floors:
         floor = Floor(["squared", "plain"].index(measure))
-        for call in calls:
-            table.append(call)
-            said.append(answer(floor, call.split()))
+        table += [f"floor {measure}"] + calls
+        said += [f"floor {measure}"] + [answer(floor, call.split()) for call in calls]
     (CRATES / "floor_cases" / "stdin").write_text("\n".join(table) + "\n")
     (CRATES / "floor_cases" / "stdout").write_text("\n".join(said) + "\n")
-
-
-def legalized(job):
-    """what a good job of rows and placings prints"""
-    said, at, index, floor = [], 1, 0, Floor(job[0])
-
-    def fields(absent):
-        nonlocal at
-        bits, got = job[at], []
-        at += 1
-        for bit, value in enumerate(absent):
-            if bits >> bit & 1:
-                (value,) = struct.unpack_from("<H", job, at)
-                at += 2
-            got.append(value)
-        return bits, tuple(got)
-
-    while at < len(job):
-        kind, name = job[at], ""
-        at += 1
-        if kind == 1:
-            _, row = fields([0, 0, 0])
-            call = lambda: floor.add_row(row)
-        else:
-            assert kind == 2
-            bits, cell = fields([0, 0, 0, 0, 1])
-            if bits >> 5 & 1:
-                name = " " + job[at + 1 : at + 1 + job[at]].decode()
-                at += 1 + job[at]
-            call = lambda: floor.place(cell)
-        try:
-            got = call()
-            said.append(f"{index} ok" + "".join(f" {n}" for n in got or ()) + name)
-        except Refused as why:
-            said.append(f"{index} no {why.args[0]}{name}")
-        index += 1
-    said += [f"{cell[0]} {line} {site}" for cell, line, site in floor.seats()]
-    return "\n".join(said + [f"cost {floor.cost()}"]) + "\n"
+    print(f"{len(floors)} floors, {len(table) - len(floors)} calls")
 
 
 if __name__ == "__main__":
-    write_cases()
-    legalize = CRATES / "legalize"
-    (legalize / "stdout").write_text(legalized((legalize / "stdin").read_bytes()))
+    main()
