@@ -251,4 +251,4 @@ one_answer price history d e w v same of_d of_e =
 
 -- the law leaves no slack, whatever the measure
 pub no_slack : NoSlack
-no_slack = record { one_where = one_where; one_answer = one_answer }
+no_slack = record { one_setting = one_setting; one_where = one_where; one_answer = one_answer }

@@ -1,12 +1,17 @@
 -- The law leaves no slack: it is a whole definition of the right floor.
+--   OneSetting    what stands decides what where_is answers, so that a call that leaves what stands leaves every answer
 --   OneWhere      there is one answer of where_is for each number
 --   OneAnswer     there is one answer to each call
---   NoSlack       both, whatever the measure
+--   NoSlack       all of these, whatever the measure
 use Rattle.std.specs.Prelude.{◌≡◌, ℕ, List, ◌∷◌}
-use Rattle.history.specs.Histories.{call_of}
+use Rattle.history.specs.Histories.{Standing, call_of}
 use Rattle.history.specs.Settings.{Where}
-use Rattle.history.specs.Law.{Law}
+use Rattle.history.specs.Law.{Holds, Law}
 use Rattle.history.specs.declared.call.Event.{Event}
+
+-- two answers of where_is that both hold while the same cells stand agree at every number
+abbrev pub OneSetting : (ℕ → ℕ → ℕ → ℕ) → Type 0
+OneSetting price = (standing : List Standing) (w v : Where) → Holds price standing w → Holds price standing v → (number : ℕ) → w number ≡ v number
 
 -- two answers of where_is that both obey the law for one history agree at every number
 abbrev pub OneWhere : (ℕ → ℕ → ℕ → ℕ) → Type 0
@@ -18,5 +23,6 @@ OneAnswer price = (history : List Event) (d e : Event) (w v : Where) → call_of
 
 -- whatever the measure, fair or not
 pub record NoSlack : Type 0 where
+  pub one_setting : (price : ℕ → ℕ → ℕ → ℕ) → OneSetting price
   pub one_where : (price : ℕ → ℕ → ℕ → ℕ) → OneWhere price
   pub one_answer : (price : ℕ → ℕ → ℕ → ℕ) → OneAnswer price
