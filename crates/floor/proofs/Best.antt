@@ -3,14 +3,14 @@ use Rattle.std.proofs.Common.{◌≡◌, ℕ, suc, ◌<◌, ◌≤◌, Bool, tru
 use Rattle.std.proofs.ByRecursion.{All-weaker}
 use Rattle.std.proofs.lemmas.Bool.{leb-true, leb-false, both_ways, or_cases}
 use Rattle.std.proofs.lemmas.Option.{same_Some}
-use Rattle.std.specs.List.{ContainsAt as Has, AllByRecursion}
+use Rattle.std.specs.List.{ContainsAt as Has, AllByRecursion, list_any}
 use Rattle.row.specs.Records.{row_ahead}
 use Rattle.row.specs.declared.Cell.{Cell}
 use Rattle.row.specs.declared.Row.{Row}
 use Rattle.table.specs.Order.{Ordered}
 use Rattle.floor.specs.Calls.{better, chosen, rise, seated, refused_or, site_then, placed_on, place_answer}
 use Rattle.floor.specs.Formed.{formed}
-use Rattle.floor.specs.Refusals.{any, has_sites, place_refusal}
+use Rattle.floor.specs.Refusals.{has_sites, place_refusal}
 use Rattle.floor.specs.Settled.{Least}
 use Rattle.floor.specs.declared.Placing.{Placing}
 use Rattle.floor.specs.declared.Refusal.{Refusal}
@@ -103,7 +103,7 @@ standing_has [] row e = absurd (both_ways false refl e)
 standing_has (r ∷ rows) row e =
     ⊎_elim (λ here. (0, omega arith, λ d. row_is row r here))
     (λ there. let rest = standing_has rows row there in (suc rest.0, let within = rest.1 in omega arith, rest.2))
-    (or_cases (is_row row r) (any (is_row row) rows) e)
+    (or_cases (is_row row r) (list_any (is_row row) rows) e)
 
 module _ (f : ℕ → ℕ → ℕ → ℕ) (rows : List Row) (seats : List Seat) (well : formed rows seats ≡ true) (cell : Cell) where
   least_row : (row : Row) (site : ℕ) → chosen f seats cell rows ≡ Some row → Least f rows seats cell (record { spot = record { line = row.line; site = site }; rise = rise f seats cell row })

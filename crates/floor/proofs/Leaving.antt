@@ -4,13 +4,13 @@ use Rattle.std.proofs.ByRecursion.{All-weaker, all_kept_by}
 use Rattle.std.proofs.lemmas.Bool.{and_parts, and_from, both_ways, eqb-true, eq-eqb, false_from_ne_true, not_from_false}
 use Rattle.std.proofs.lemmas.List.Sums.{length-filter, count_by-le-length}
 use Rattle.std.proofs.lemmas.Option.{same_Some}
-use Rattle.std.specs.List.{AllByRecursion}
+use Rattle.std.specs.List.{AllByRecursion, list_all}
 use Rattle.measure.specs.Costs.{Fair}
 use Rattle.row.specs.Stack.{Ready}
 use Rattle.row.specs.declared.Row.{Row}
 use Rattle.table.proofs.Inserted.{Pairs}
 use Rattle.floor.specs.Calls.{seat_of, without, seats_less, seats_after_withdraw}
-use Rattle.floor.specs.Formed.{every, every_pair, rows_formed, seat_formed, seats_apart, formed}
+use Rattle.floor.specs.Formed.{every_pair, rows_formed, seat_formed, seats_apart, formed}
 use Rattle.floor.specs.Rows.{same_row}
 use Rattle.floor.specs.Seats.{on_row, seats_on, cells_on, settled}
 use Rattle.floor.specs.Settled.{Settled}
@@ -26,10 +26,10 @@ use Rattle.floor.proofs.Tests.{every_all, all_every, pairs_all, all_pairs}
 -- a floor with some of its seats is well formed
 pub kept_formed : (p : Seat → Bool) (rows : List Row) (seats : List Seat) → formed rows seats ≡ true → formed rows (filter p seats) ≡ true
 kept_formed p rows seats well =
-    let parts = and_parts (rows_formed rows) (every (seat_formed rows) seats && every_pair seats_apart seats) well in
-    let both = and_parts (every (seat_formed rows) seats) (every_pair seats_apart seats) parts.1 in
-    and_from (rows_formed rows) (every (seat_formed rows) (filter p seats) && every_pair seats_apart (filter p seats)) parts.0
-    (and_from (every (seat_formed rows) (filter p seats)) (every_pair seats_apart (filter p seats))
+    let parts = and_parts (rows_formed rows) (list_all (seat_formed rows) seats && every_pair seats_apart seats) well in
+    let both = and_parts (list_all (seat_formed rows) seats) (every_pair seats_apart seats) parts.1 in
+    and_from (rows_formed rows) (list_all (seat_formed rows) (filter p seats) && every_pair seats_apart (filter p seats)) parts.0
+    (and_from (list_all (seat_formed rows) (filter p seats)) (every_pair seats_apart (filter p seats))
     (all_every (seat_formed rows) (filter p seats) (all_kept_by p (λ s. seat_formed rows s ≡ true) seats (every_all (seat_formed rows) seats both.0)))
     (all_pairs seats_apart (filter p seats) (pairs_kept p (λ s t. seats_apart s t ≡ true) seats (pairs_all seats_apart seats both.1))))
 

@@ -2,15 +2,14 @@
 use Rattle.std.proofs.Common.{◌≡◌, ℕ, zero, suc, ◌+◌, ◌<◌, ◌≤◌, Bool, true, false, not, ◌&&◌, ◌||◌, eqb, leb, List, [], ◌∷◌, length, get_or, is_some, None, sym, refl, ◌∙◌, subst, ⊎_elim, arith}
 use Rattle.std.proofs.ByRecursion.{All-weaker, all_kept_by, kept_by_passes}
 use Rattle.std.proofs.lemmas.Bool.{and_parts, and_from, or_cases, or_left, or_right, leb-true, le-leb, eqb-true, eq-eqb, not-true, not_from_false, both_ways, cases_Bool}
-use Rattle.std.specs.List.{AllByRecursion}
+use Rattle.std.specs.List.{AllByRecursion, list_all, list_any}
 use Rattle.row.specs.Records.{cell_fault, row_fault, row_ahead}
 use Rattle.row.specs.Stack.{Passes}
 use Rattle.row.specs.declared.Row.{Row}
 use Rattle.row.proofs.Ranges.{RangedRow, ranged_row}
 use Rattle.table.specs.Order.{Ordered}
 use Rattle.table.proofs.Inserted.{Pairs}
-use Rattle.floor.specs.Formed.{every, every_pair, is_row_of, rows_formed, seat_formed, seats_apart, formed}
-use Rattle.floor.specs.Refusals.{any}
+use Rattle.floor.specs.Formed.{every_pair, is_row_of, rows_formed, seat_formed, seats_apart, formed}
 use Rattle.floor.specs.Rows.{same_row, share}
 use Rattle.floor.specs.Seats.{on_row, seat_ahead, seats_on}
 use Rattle.floor.specs.declared.Seat.{Seat}
@@ -23,7 +22,7 @@ abbrev pub is_row : Row → Row → Bool
 is_row row r = eqb r.line row.line && (eqb r.left row.left && eqb r.right row.right)
 
 abbrev pub Standing : List Row → Row → Type 0
-Standing rows row = any (is_row row) rows ≡ true
+Standing rows row = list_any (is_row row) rows ≡ true
 
 -- rows with the same fields are one row
 pub row_is : (a b : Row) → is_row a b ≡ true → b ≡ a
@@ -43,14 +42,14 @@ is_itself a = and_from _ _ (eq-eqb a.line a.line refl) (and_from _ _ (eq-eqb a.l
 -- the row at a place stands
 pub standing_at : (rows : List Row) (i : ℕ) (d : Row) → i < length rows → Standing rows (get_or rows i d)
 standing_at [] i d within = absurd (omega arith)
-standing_at (r ∷ rows) zero d within = or_left (is_row r r) (any (is_row r) rows) (is_itself r)
-standing_at (r ∷ rows) (suc i) d within = or_right (is_row (get_or rows i d) r) (any (is_row (get_or rows i d)) rows) (standing_at rows i d (omega arith))
+standing_at (r ∷ rows) zero d within = or_left (is_row r r) (list_any (is_row r) rows) (is_itself r)
+standing_at (r ∷ rows) (suc i) d within = or_right (is_row (get_or rows i d) r) (list_any (is_row (get_or rows i d)) rows) (standing_at rows i d (omega arith))
 
 -- what holds of all rows holds of one that stands
 pub standing_all : (P : Row → Type 0) (rows : List Row) (row : Row) → AllByRecursion P rows → Standing rows row → P row
 standing_all P [] row all e = absurd (both_ways false refl e)
 standing_all P (r ∷ rows) row all e =
-    ⊎_elim (λ here. subst P (row_is row r here) all.0) (λ there. standing_all P rows row all.1 there) (or_cases (is_row row r) (any (is_row row) rows) e)
+    ⊎_elim (λ here. subst P (row_is row r here) all.0) (λ there. standing_all P rows row all.1 there) (or_cases (is_row row r) (list_any (is_row row) rows) e)
 
 -- rows of one line and one left share a site
 pub same_share : (a b : Row) → RangedRow a → RangedRow b → same_row a b ≡ true → share a b ≡ true
@@ -65,8 +64,8 @@ pub apart_one : (rows : List Row) (a b : Row) → Pairs (λ c d. not (share c d)
 apart_one [] a b apart shared ea eb = absurd (both_ways false refl ea)
 apart_one (r ∷ rows) a b apart shared ea eb =
     let Off : Row → Type 0 = λ y. not (share r y) ≡ true in
-    let in_a = or_cases (is_row a r) (any (is_row a) rows) ea in
-    let in_b = or_cases (is_row b r) (any (is_row b) rows) eb in
+    let in_a = or_cases (is_row a r) (list_any (is_row a) rows) ea in
+    let in_b = or_cases (is_row b r) (list_any (is_row b) rows) eb in
     ⊎_elim
     (λ here_a.
     ⊎_elim
@@ -81,8 +80,8 @@ apart_one (r ∷ rows) a b apart shared ea eb =
     in_a
 
 module _ (rows : List Row) (well : rows_formed rows ≡ true) where
-  pub row_parts : (every (λ r. not (is_some (row_fault r))) rows ≡ true) × ((every_pair row_ahead rows && every_pair (λ a b. not (share a b)) rows) ≡ true)
-  row_parts = and_parts (every (λ r. not (is_some (row_fault r))) rows) (every_pair row_ahead rows && every_pair (λ a b. not (share a b)) rows) well
+  pub row_parts : (list_all (λ r. not (is_some (row_fault r))) rows ≡ true) × ((every_pair row_ahead rows && every_pair (λ a b. not (share a b)) rows) ≡ true)
+  row_parts = and_parts (list_all (λ r. not (is_some (row_fault r))) rows) (every_pair row_ahead rows && every_pair (λ a b. not (share a b)) rows) well
 
   -- a standing row passes its check
   pub standing_passes : (row : Row) → Standing rows row → row_fault row ≡ None
@@ -128,15 +127,15 @@ Clear s t = on_row t.row s ≡ true → After s t
 -- the tests of one seat
 seat_one : (rows : List Row) (s : Seat) → seat_formed rows s ≡ true → Passes s.cell × Standing rows s.row × Inside s
 seat_one rows s e =
-    let own = and_parts (not (is_some (cell_fault s.cell))) (any (is_row_of s) rows && (leb s.row.left s.site && leb (s.site + s.cell.width) s.row.right)) e in
-    let stand = and_parts (any (is_row_of s) rows) (leb s.row.left s.site && leb (s.site + s.cell.width) s.row.right) own.1 in
+    let own = and_parts (not (is_some (cell_fault s.cell))) (list_any (is_row_of s) rows && (leb s.row.left s.site && leb (s.site + s.cell.width) s.row.right)) e in
+    let stand = and_parts (list_any (is_row_of s) rows) (leb s.row.left s.site && leb (s.site + s.cell.width) s.row.right) own.1 in
     let sides = and_parts (leb s.row.left s.site) (leb (s.site + s.cell.width) s.row.right) stand.1 in
     (none_found (cell_fault s.cell) own.0, stand.0, (leb-true s.row.left s.site sides.0, leb-true (s.site + s.cell.width) s.row.right sides.1))
 
 one_seat : (rows : List Row) (s : Seat) → Passes s.cell → Standing rows s.row → Inside s → seat_formed rows s ≡ true
 one_seat rows s pass stand inside =
-    and_from (not (is_some (cell_fault s.cell))) (any (is_row_of s) rows && (leb s.row.left s.site && leb (s.site + s.cell.width) s.row.right)) (nothing_some (cell_fault s.cell) pass)
-    (and_from (any (is_row_of s) rows) (leb s.row.left s.site && leb (s.site + s.cell.width) s.row.right) stand
+    and_from (not (is_some (cell_fault s.cell))) (list_any (is_row_of s) rows && (leb s.row.left s.site && leb (s.site + s.cell.width) s.row.right)) (nothing_some (cell_fault s.cell) pass)
+    (and_from (list_any (is_row_of s) rows) (leb s.row.left s.site && leb (s.site + s.cell.width) s.row.right) stand
     (and_from (leb s.row.left s.site) (leb (s.site + s.cell.width) s.row.right) (le-leb s.row.left s.site inside.0) (le-leb (s.site + s.cell.width) s.row.right inside.1)))
 
 -- the tests of two seats
@@ -161,11 +160,11 @@ two_seats s t ahead differ clear =
     (cases_Bool (on_row t.row s))))
 
 module _ (rows : List Row) (seats : List Seat) (e : formed rows seats ≡ true) where
-  parts : (rows_formed rows ≡ true) × ((every (seat_formed rows) seats && every_pair seats_apart seats) ≡ true)
-  parts = and_parts (rows_formed rows) (every (seat_formed rows) seats && every_pair seats_apart seats) e
+  parts : (rows_formed rows ≡ true) × ((list_all (seat_formed rows) seats && every_pair seats_apart seats) ≡ true)
+  parts = and_parts (rows_formed rows) (list_all (seat_formed rows) seats && every_pair seats_apart seats) e
 
-  seat_parts : (every (seat_formed rows) seats ≡ true) × (every_pair seats_apart seats ≡ true)
-  seat_parts = and_parts (every (seat_formed rows) seats) (every_pair seats_apart seats) parts.1
+  seat_parts : (list_all (seat_formed rows) seats ≡ true) × (every_pair seats_apart seats ≡ true)
+  seat_parts = and_parts (list_all (seat_formed rows) seats) (every_pair seats_apart seats) parts.1
 
   ones : AllByRecursion (λ s. seat_formed rows s ≡ true) seats
   ones = every_all (seat_formed rows) seats seat_parts.0
@@ -217,8 +216,8 @@ listed_formed rows seats listed sited =
     (all_with (λ s. Standing rows s.row) Inside (λ s. Standing rows s.row × Inside s) (λ s a b. (a, b)) seats listed.stand inside) in
     let twos = pairs_with (λ s t. seat_ahead s t ≡ true) (λ s t. Differ s t × Clear s t) (λ s t. seats_apart s t ≡ true) (λ s t a b. two_seats s t a b.0 b.1) seats (ordered_pairs seat_ahead seats listed.order)
     (pairs_with Differ Clear (λ s t. Differ s t × Clear s t) (λ s t a b. (a, b)) seats listed.differ clear) in
-    and_from (rows_formed rows) (every (seat_formed rows) seats && every_pair seats_apart seats) listed.well
-    (and_from (every (seat_formed rows) seats) (every_pair seats_apart seats) (all_every (seat_formed rows) seats ones) (all_pairs seats_apart seats twos))
+    and_from (rows_formed rows) (list_all (seat_formed rows) seats && every_pair seats_apart seats) listed.well
+    (and_from (list_all (seat_formed rows) seats) (every_pair seats_apart seats) (all_every (seat_formed rows) seats ones) (all_pairs seats_apart seats twos))
 
 -- rows of one line and one left have the same seats
 pub seats_on_same : (r row : Row) (seats : List Seat) → same_row r row ≡ true → seats_on r seats ≡ seats_on row seats

@@ -1,9 +1,9 @@
 -- What is known once a row is chosen for a cell.
-use Rattle.std.proofs.Common.{◌≡◌, ℕ, Bool, true, false, cond, ◌||◌, eqb, leb, List, [], ◌∷◌, map, Some, None, Ok, Option, IsSome, sym, refl, ap, ◌∙◌, subst, arith}
+use Rattle.std.proofs.Common.{◌≡◌, ℕ, Bool, true, false, cond, ◌||◌, eqb, leb, List, [], ◌∷◌, Some, None, Ok, Option, IsSome, sym, refl, ap, ◌∙◌, subst, arith}
 use Rattle.std.proofs.lemmas.Bool.{or_left, or_right, cond_both, cond-true, cond-false, eq-eqb, both_ways}
 use Rattle.std.proofs.ByRecursion.{All-weaker}
 use Rattle.std.proofs.lemmas.Option.{same_Some}
-use Rattle.std.specs.List.{AllByRecursion}
+use Rattle.std.specs.List.{AllByRecursion, list_any}
 use Rattle.std.specs.Option.{option_map, unwrap_or, ok_or}
 use Rattle.measure.specs.Costs.{Fair}
 use Rattle.row.specs.Records.{check, then}
@@ -18,12 +18,13 @@ use Rattle.table.proofs.Inserted.{put_in, put_all, inserted_is}
 use Rattle.floor.specs.Calls.{better, chosen, rise, seated, seat_of, spot, site_then, refused_or, placed_on, place_answer, seated_on, seats_after_place}
 use Rattle.floor.specs.Choices.{choice_of}
 use Rattle.floor.specs.Formed.{formed}
-use Rattle.floor.specs.Refusals.{any, has_sites, stands, cell_refusal, place_refusal}
+use Rattle.floor.specs.Refusals.{has_sites, stands, cell_refusal, place_refusal}
 use Rattle.floor.specs.Seats.{seat_ahead, cells_on, site_of, new_seat, joined, resited}
 use Rattle.floor.specs.declared.Refusal.{Refusal}
 use Rattle.floor.specs.declared.Refusal.TheVariants.{NoRoom}
 use Rattle.floor.specs.declared.Seat.{Seat}
 use Rattle.floor.specs.declared.choice.Choice.{Choice}
+use Rattle.floor.proofs.Anys.{any_map}
 use Rattle.floor.proofs.Joining.{placeable, fresh_each, seated_formed}
 use Rattle.floor.proofs.Listed.{is_row, Standing}
 use Rattle.floor.proofs.Ready.{ready_standing}
@@ -38,15 +39,15 @@ is_row_self : (row : Row) → is_row row row ≡ true
 is_row_self row = grind arith
 
 later : (first : Row) (rows : List Row) (seats : List Seat) (cell : Cell) (row : Row) → Good rows seats cell row → Good (first ∷ rows) seats cell row
-later first rows seats cell row g = record { stands = or_right (is_row row first) (any (is_row row) rows) g.stands; fits = g.fits }
+later first rows seats cell row g = record { stands = or_right (is_row row first) (list_any (is_row row) rows) g.stands; fits = g.fits }
 
 better_good : (f : ℕ → ℕ → ℕ → ℕ) (first : Row) (rows : List Row) (seats : List Seat) (cell : Cell) (row : Row) (o : Option Row) → has_sites seats cell first ≡ true → ((r : Row) → o ≡ Some r → Good rows seats cell r) → better (rise f seats cell) first o ≡ Some row → Good (first ∷ rows) seats cell row
 better_good f first rows seats cell row None fits rest e =
-    subst (Good (first ∷ rows) seats cell) (same_Some first row e) (record { stands = or_left (is_row first first) (any (is_row first) rows) (is_row_self first); fits = fits })
+    subst (Good (first ∷ rows) seats cell) (same_Some first row e) (record { stands = or_left (is_row first first) (list_any (is_row first) rows) (is_row_self first); fits = fits })
 better_good f first rows seats cell row (Some other) fits rest e = by_test (leb (rise f seats cell first) (rise f seats cell other)) e
   where
     by_test : (t : Bool) → cond t (Some first) (Some other) ≡ Some row → Good (first ∷ rows) seats cell row
-    by_test true h = subst (Good (first ∷ rows) seats cell) (same_Some first row h) (record { stands = or_left (is_row first first) (any (is_row first) rows) (is_row_self first); fits = fits })
+    by_test true h = subst (Good (first ∷ rows) seats cell) (same_Some first row h) (record { stands = or_left (is_row first first) (list_any (is_row first) rows) (is_row_self first); fits = fits })
     by_test false h = later first rows seats cell row (rest row h)
 
 by_sites : (f : ℕ → ℕ → ℕ → ℕ) (first : Row) (rows : List Row) (seats : List Seat) (cell : Cell) (row : Row) (t : Bool) → has_sites seats cell first ≡ t → ((r : Row) → chosen f seats cell rows ≡ Some r → Good rows seats cell r) → cond t (better (rise f seats cell) first (chosen f seats cell rows)) (chosen f seats cell rows) ≡ Some row → Good (first ∷ rows) seats cell row
@@ -58,19 +59,19 @@ chosen_good f [] seats cell row e = let never : ◌≡◌ {A = ℕ} 0 1 = cc in 
 chosen_good f (first ∷ rows) seats cell row e = by_sites f first rows seats cell row (has_sites seats cell first) refl (λ r. chosen_good f rows seats cell r) e
 
 -- a row that is chosen has sites
-any_by : (seats : List Seat) (cell : Cell) (first : Row) (rows : List Row) (t : Bool) → has_sites seats cell first ≡ t → (t ≡ false → any (has_sites seats cell) rows ≡ true) → any (has_sites seats cell) (first ∷ rows) ≡ true
-any_by seats cell first rows true fits rest = or_left (has_sites seats cell first) (any (has_sites seats cell) rows) fits
-any_by seats cell first rows false fits rest = or_right (has_sites seats cell first) (any (has_sites seats cell) rows) (rest refl)
+any_by : (seats : List Seat) (cell : Cell) (first : Row) (rows : List Row) (t : Bool) → has_sites seats cell first ≡ t → (t ≡ false → list_any (has_sites seats cell) rows ≡ true) → list_any (has_sites seats cell) (first ∷ rows) ≡ true
+any_by seats cell first rows true fits rest = or_left (has_sites seats cell first) (list_any (has_sites seats cell) rows) fits
+any_by seats cell first rows false fits rest = or_right (has_sites seats cell first) (list_any (has_sites seats cell) rows) (rest refl)
 
-pub chosen_any : (f : ℕ → ℕ → ℕ → ℕ) (rows : List Row) (seats : List Seat) (cell : Cell) (row : Row) → chosen f seats cell rows ≡ Some row → any (has_sites seats cell) rows ≡ true
+pub chosen_any : (f : ℕ → ℕ → ℕ → ℕ) (rows : List Row) (seats : List Seat) (cell : Cell) (row : Row) → chosen f seats cell rows ≡ Some row → list_any (has_sites seats cell) rows ≡ true
 chosen_any f [] seats cell row e = let never : ◌≡◌ {A = ℕ} 0 1 = cc in absurd (omega arith)
 chosen_any f (first ∷ rows) seats cell row e =
     any_by seats cell first rows (has_sites seats cell first) refl
     (λ no. chosen_any f rows seats cell row (sym (cond-false (has_sites seats cell first) (better (rise f seats cell) first (chosen f seats cell rows)) (chosen f seats cell rows) no) ∙ e))
 
 -- so the check of the rows refuses nothing where the others refuse nothing
-pub not_refused : (rows : List Row) (seats : List Seat) (cell : Cell) → cell_refusal seats cell ≡ None → any (has_sites seats cell) rows ≡ true → place_refusal rows seats cell ≡ None
-not_refused rows seats cell none sites = refuses (cell_refusal seats cell) (any (has_sites seats cell) rows) none sites
+pub not_refused : (rows : List Row) (seats : List Seat) (cell : Cell) → cell_refusal seats cell ≡ None → list_any (has_sites seats cell) rows ≡ true → place_refusal rows seats cell ≡ None
+not_refused rows seats cell none sites = refuses (cell_refusal seats cell) (list_any (has_sites seats cell) rows) none sites
   where
     refuses : (others : Option Refusal) (some : Bool) → others ≡ None → some ≡ true → then others (check some NoRoom None) ≡ None
     refuses None some e sites = cond-true some None (Some NoRoom) sites
@@ -78,17 +79,13 @@ not_refused rows seats cell none sites = refuses (cell_refusal seats cell) (any 
 
 -- and where nothing is refused, the checks that do not look at the rows refuse nothing
 pub free_cell : (rows : List Row) (seats : List Seat) (cell : Cell) → place_refusal rows seats cell ≡ None → cell_refusal seats cell ≡ None
-free_cell rows seats cell none = (both (cell_refusal seats cell) (check (any (has_sites seats cell) rows) NoRoom None) none).0
+free_cell rows seats cell none = (both (cell_refusal seats cell) (check (list_any (has_sites seats cell) rows) NoRoom None) none).0
 
 -- a seat that has joined is found by its number
-any_new : {X : Type 0} (ahead : X → X → Bool) (k : X) (test : X → Bool) (xs : List X) → test k ≡ true → any test (put_in ahead k xs) ≡ true
+any_new : {X : Type 0} (ahead : X → X → Bool) (k : X) (test : X → Bool) (xs : List X) → test k ≡ true → list_any test (put_in ahead k xs) ≡ true
 any_new ahead k test [] own = or_left (test k) false own
 any_new ahead k test (x ∷ xs) own =
-    cond_both (ahead x k) (x ∷ put_in ahead k xs) (k ∷ x ∷ xs) (λ l. any test l ≡ true) (λ yes. or_right (test x) (any test (put_in ahead k xs)) (any_new ahead k test xs own)) (λ no. or_left (test k) (any test (x ∷ xs)) own)
-
-any_cells : (test : Cell → Bool) (seats : List Seat) → any (λ s. test s.cell) seats ≡ any test (map (λ s. s.cell) seats)
-any_cells test [] = refl
-any_cells test (s ∷ seats) = ap (λ b. test s.cell || b) (any_cells test seats)
+    cond_both (ahead x k) (x ∷ put_in ahead k xs) (k ∷ x ∷ xs) (λ l. list_any test l ≡ true) (λ yes. or_right (test x) (list_any test (put_in ahead k xs)) (any_new ahead k test xs own)) (λ no. or_left (test k) (list_any test (x ∷ xs)) own)
 
 stands_found : (number : ℕ) (seats : List Seat) → stands number seats ≡ true → IsSome (seat_of number seats)
 stands_found number [] e = absurd (both_ways false refl e)
@@ -103,9 +100,9 @@ seated_found f seats cell row =
     let all : List Seat = joined row cell seats in
     let sites = row_sites f row (cells_on row all) in
     let test : Cell → Bool = λ c. eqb c.number cell.number in
-    let own : any (λ s. test s.cell) all ≡ true = ap (any (λ s. test s.cell)) (inserted_is seat_ahead (new_seat row cell) seats) ∙ any_new seat_ahead (new_seat row cell) (λ s. test s.cell) seats (eq-eqb cell.number cell.number refl) in
+    let own : list_any (λ s. test s.cell) all ≡ true = ap (list_any (λ s. test s.cell)) (inserted_is seat_ahead (new_seat row cell) seats) ∙ any_new seat_ahead (new_seat row cell) (λ s. test s.cell) seats (eq-eqb cell.number cell.number refl) in
     stands_found cell.number (resited row sites all)
-    (any_cells test (resited row sites all) ∙ ap (any test) (resited_cells row sites all) ∙ sym (any_cells test all) ∙ own)
+    (sym (any_map (λ s. s.cell) test (resited row sites all)) ∙ ap (list_any test) (resited_cells row sites all) ∙ any_map (λ s. s.cell) test all ∙ own)
 
 -- what holds of the seats of a number holds of the one that is found
 pub found_has : (P : Seat → Type 0) (number : ℕ) (seats : List Seat) (s : Seat) → AllByRecursion (λ t. eqb t.cell.number number ≡ true → P t) seats → seat_of number seats ≡ Some s → P s

@@ -3,7 +3,7 @@ use Rattle.std.proofs.Common.{◌≡◌, ◌<◌, true, false, not, ◌&&◌, lt
 use Rattle.std.proofs.ByRecursion.{All-weaker}
 use Rattle.std.proofs.lemmas.Bool.{and_parts, and_from, not-true, ltb-true}
 use Rattle.std.specs.Option.{option_map}
-use Rattle.std.specs.List.{AllByRecursion, insert}
+use Rattle.std.specs.List.{AllByRecursion, insert, list_all, list_any}
 use Rattle.row.specs.Records.{check, row_fault, row_ahead}
 use Rattle.row.specs.declared.Row.{Row}
 use Rattle.row.proofs.Accepted.{both, unmapped}
@@ -11,8 +11,8 @@ use Rattle.row.proofs.Ranges.{passed, RangedRow, ranged_row}
 use Rattle.table.specs.Order.{Ordered, rank_of}
 use Rattle.table.proofs.Inserted.{put_in, put_all, put_ordered, put_pairs, inserted_is}
 use Rattle.floor.specs.Calls.{with_row}
-use Rattle.floor.specs.Formed.{every, every_pair, rows_formed, is_row_of, seat_formed, seats_apart, formed}
-use Rattle.floor.specs.Refusals.{any, add_refusal}
+use Rattle.floor.specs.Formed.{every_pair, rows_formed, is_row_of, seat_formed, seats_apart, formed}
+use Rattle.floor.specs.Refusals.{add_refusal}
 use Rattle.floor.specs.Rows.{same_row, share}
 use Rattle.floor.specs.declared.Refusal.TheVariants.{OutOfRange, RowsFull, RowShares}
 use Rattle.floor.specs.declared.Seat.{Seat}
@@ -27,8 +27,8 @@ share_turn : (a b : Row) → share a b ≡ false → share b a ≡ false
 share_turn a b e = grind arith
 
 module _ (rows : List Row) (row : Row) (none : add_refusal rows row ≡ None) where
-  checks : (option_map OutOfRange (row_fault row) ≡ None) × (check (ltb (length rows) 64) RowsFull (check (not (any (share row) rows)) RowShares None) ≡ None)
-  checks = both (option_map OutOfRange (row_fault row)) (check (ltb (length rows) 64) RowsFull (check (not (any (share row) rows)) RowShares None)) none
+  checks : (option_map OutOfRange (row_fault row) ≡ None) × (check (ltb (length rows) 64) RowsFull (check (not (list_any (share row) rows)) RowShares None) ≡ None)
+  checks = both (option_map OutOfRange (row_fault row)) (check (ltb (length rows) 64) RowsFull (check (not (list_any (share row) rows)) RowShares None)) none
 
   passes_new : row_fault row ≡ None
   passes_new = unmapped OutOfRange (row_fault row) checks.0
@@ -38,13 +38,13 @@ module _ (rows : List Row) (row : Row) (none : add_refusal rows row ≡ None) wh
 
   pub apart_new : AllByRecursion (λ r. share row r ≡ false) rows
   apart_new =
-      let full = passed (ltb (length rows) 64) RowsFull (check (not (any (share row) rows)) RowShares None) checks.1 in
-      none_any (share row) rows (passed (not (any (share row) rows)) RowShares None full.1).0
+      let full = passed (ltb (length rows) 64) RowsFull (check (not (list_any (share row) rows)) RowShares None) checks.1 in
+      none_any (share row) rows (passed (not (list_any (share row) rows)) RowShares None full.1).0
 
   -- a row's own tests
   module _ (formed_rows : rows_formed rows ≡ true) where
-    parts : (every (λ r. not (is_some (row_fault r))) rows ≡ true) × ((every_pair row_ahead rows && every_pair (λ a b. not (share a b)) rows) ≡ true)
-    parts = and_parts (every (λ r. not (is_some (row_fault r))) rows) (every_pair row_ahead rows && every_pair (λ a b. not (share a b)) rows) formed_rows
+    parts : (list_all (λ r. not (is_some (row_fault r))) rows ≡ true) × ((every_pair row_ahead rows && every_pair (λ a b. not (share a b)) rows) ≡ true)
+    parts = and_parts (list_all (λ r. not (is_some (row_fault r))) rows) (every_pair row_ahead rows && every_pair (λ a b. not (share a b)) rows) formed_rows
 
     pair_parts : (every_pair row_ahead rows ≡ true) × (every_pair (λ a b. not (share a b)) rows ≡ true)
     pair_parts = and_parts (every_pair row_ahead rows) (every_pair (λ a b. not (share a b)) rows) parts.1
@@ -94,13 +94,13 @@ module _ (rows : List Row) (row : Row) (none : add_refusal rows row ≡ None) wh
       ∙ and_from _ _ (put_formed parts.0) (and_from _ _ (all_every (seat_formed (put_in row_ahead row rows)) seats kept) others.1)
 
   pub not_full : length rows < 64
-  not_full = ltb-true (length rows) 64 (passed (ltb (length rows) 64) RowsFull (check (not (any (share row) rows)) RowShares None) checks.1).0
+  not_full = ltb-true (length rows) 64 (passed (ltb (length rows) 64) RowsFull (check (not (list_any (share row) rows)) RowShares None) checks.1).0
 
 -- the rows of a floor are in row order
 pub ordered_rows : (rows : List Row) (seats : List Seat) → formed rows seats ≡ true → Ordered row_ahead rows
 ordered_rows rows seats e =
-    let all = and_parts (rows_formed rows) (every (seat_formed rows) seats && every_pair seats_apart seats) e in
-    let parts = and_parts (every (λ r. not (is_some (row_fault r))) rows) (every_pair row_ahead rows && every_pair (λ a b. not (share a b)) rows) all.0 in
+    let all = and_parts (rows_formed rows) (list_all (seat_formed rows) seats && every_pair seats_apart seats) e in
+    let parts = and_parts (list_all (λ r. not (is_some (row_fault r))) rows) (every_pair row_ahead rows && every_pair (λ a b. not (share a b)) rows) all.0 in
     let pairs = and_parts (every_pair row_ahead rows) (every_pair (λ a b. not (share a b)) rows) parts.1 in
     pairs_ordered row_ahead rows (pairs_all row_ahead rows pairs.0)
 

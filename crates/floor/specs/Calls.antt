@@ -6,8 +6,8 @@
 --   seat_of, spot          a standing cell's seat, and where it stands
 --   where_answer           the answer of where a cell stands, and so of withdrawing it
 --   seats_after_withdraw   the seats once a cell is withdrawn
-use Rattle.std.specs.Prelude.{ℕ, ◌+◌, ◌-◌, not, cond, List, [], ◌∷◌, filter, Some, None, Ok, Err, Option, Result, ◌==◌, nat_eq, nat_le}
-use Rattle.std.specs.List.{insert}
+use Rattle.std.specs.Prelude.{ℕ, ◌+◌, ◌-◌, not, cond, List, [], ◌∷◌, filter, Some, None, Ok, Err, Option, Result, nat_eq, nat_le}
+use Rattle.std.specs.List.{find, insert}
 use Rattle.std.specs.Option.{option_map, unwrap_or, ok_or}
 use Rattle.row.specs.Records.{row_ahead}
 use Rattle.row.specs.declared.Cell.{Cell}
@@ -32,8 +32,7 @@ rows_after rows row = changed (add_refusal rows row) (with_row rows row) rows
 
 -- a standing cell's seat, by its number
 abbrev pub seat_of : ℕ → List Seat → Option Seat
-seat_of number [] = None
-seat_of number (s ∷ seats) = cond (s.cell.number == number) (Some s) (seat_of number seats)
+seat_of number = find (λ s. nat_eq s.cell.number number)
 
 -- where a seat is
 abbrev pub spot : Seat → Spot

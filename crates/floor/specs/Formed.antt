@@ -2,27 +2,22 @@
 --   formed           rows within their ranges, in row order and apart; seats of cells within their ranges, in their order, no number twice,
 --                    each on a standing row, legal and in wanted order
 use Rattle.std.specs.Prelude.{◌+◌, Bool, true, not, ◌&&◌, ◌||◌, List, [], ◌∷◌, is_some, ◌==◌, nat_le}
+use Rattle.std.specs.List.{list_all, list_any}
 use Rattle.row.specs.Records.{cell_fault, row_fault, row_ahead}
 use Rattle.row.specs.declared.Row.{Row}
 use Rattle.floor.specs.Rows.{share}
-use Rattle.floor.specs.Refusals.{any}
 use Rattle.floor.specs.Seats.{on_row, seat_ahead}
 use Rattle.floor.specs.declared.Seat.{Seat}
-
--- whether all of a list pass a test
-abbrev pub every : {X : Type 0} → (X → Bool) → List X → Bool
-every test [] = true
-every test (x ∷ xs) = test x && every test xs
 
 -- whether any two of a list, the earlier one first, pass a test
 abbrev pub every_pair : {X : Type 0} → (X → X → Bool) → List X → Bool
 every_pair test [] = true
-every_pair test (x ∷ xs) = every (test x) xs && every_pair test xs
+every_pair test (x ∷ xs) = list_all (test x) xs && every_pair test xs
 
 -- rows within their ranges, in row order, no two with a site in common
 abbrev pub rows_formed : List Row → Bool
 rows_formed rows =
-    every (λ r. not (is_some (row_fault r))) rows
+    list_all (λ r. not (is_some (row_fault r))) rows
     && (every_pair row_ahead rows && every_pair (λ a b. not (share a b)) rows)
 
 -- whether a row is the row that a seat is on
@@ -33,7 +28,7 @@ is_row_of s r = r.line == s.row.line && (r.left == s.row.left && r.right == s.ro
 abbrev pub seat_formed : List Row → Seat → Bool
 seat_formed rows s =
     not (is_some (cell_fault s.cell))
-    && (any (is_row_of s) rows
+    && (list_any (is_row_of s) rows
     && (nat_le s.row.left s.site && nat_le (s.site + s.cell.width) s.row.right))
 
 -- two seats in their order, with two numbers, and clear of each other where they are on one row
@@ -45,4 +40,4 @@ seats_apart s t =
 
 -- what every floor keeps
 abbrev pub formed : List Row → List Seat → Bool
-formed rows seats = rows_formed rows && (every (seat_formed rows) seats && every_pair seats_apart seats)
+formed rows seats = rows_formed rows && (list_all (seat_formed rows) seats && every_pair seats_apart seats)

@@ -7,7 +7,8 @@
 --   place_refusal_by, place_refusal        the first check of placing, and of trying, that fails, if one does
 --   cell_refusal_by, cell_refusal          the same of the checks of placing that do not look at the rows
 --   withdraw_refusal_by                    the check of taking a cell out, by its number
-use Rattle.std.specs.Prelude.{ℕ, ◌+◌, ◌-◌, Bool, false, not, ◌||◌, List, [], ◌∷◌, length, None, Option, nat_eq, nat_le, nat_lt}
+use Rattle.std.specs.Prelude.{ℕ, ◌+◌, ◌-◌, Bool, not, List, length, None, Option, nat_eq, nat_le, nat_lt}
+use Rattle.std.specs.List.{list_any}
 use Rattle.std.specs.Option.{option_map}
 use Rattle.row.specs.Records.{check, then, cell_fault, row_fault, widths}
 use Rattle.row.specs.Refusals.{fault_number}
@@ -29,23 +30,18 @@ number_of NotStanding = 8
 number_of RowsFull = 10
 number_of RowShares = 11
 
--- whether any of a list passes a test
-abbrev pub any : {X : Type 0} → (X → Bool) → List X → Bool
-any test [] = false
-any test (x ∷ xs) = test x || any test xs
-
 -- the checks of adding a row, in their order: its ranges; 64 rows stand; it shares a site with a standing row
 abbrev pub add_refusal : List Row → Row → Option Refusal
 add_refusal rows row =
     then (option_map OutOfRange (row_fault row))
     (check (nat_lt (length rows) 64) RowsFull
-    (check (not (any (share row) rows)) RowShares None))
+    (check (not (list_any (share row) rows)) RowShares None))
 
 -- What stands is a list of records that hold a cell and the row that it stands on.
 module _ {X : Type 0} (cell_of : X → Cell) (row_of : X → Row) where
   -- whether a number stands
   abbrev pub stands_by : ℕ → List X → Bool
-  stands_by number standing = any (λ x. nat_eq (cell_of x).number number) standing
+  stands_by number standing = list_any (λ x. nat_eq (cell_of x).number number) standing
 
   -- whether a row has sites for a cell: the widths that stand there and the new one are at most right - left
   abbrev pub has_sites_by : List X → Cell → Row → Bool
@@ -60,7 +56,7 @@ module _ {X : Type 0} (cell_of : X → Cell) (row_of : X → Row) where
 
   -- the checks of placing a cell, in their order: those; no row has sites for it
   abbrev pub place_refusal_by : List Row → List X → Cell → Option Refusal
-  place_refusal_by rows standing cell = then (cell_refusal_by standing cell) (check (any (has_sites_by standing cell) rows) NoRoom None)
+  place_refusal_by rows standing cell = then (cell_refusal_by standing cell) (check (list_any (has_sites_by standing cell) rows) NoRoom None)
 
   -- the check of taking a cell out, by its number: that it stands
   abbrev pub withdraw_refusal_by : List X → ℕ → Option Refusal

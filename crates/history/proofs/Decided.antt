@@ -2,7 +2,7 @@
 use Rattle.std.proofs.Common.{◌≡◌, ℕ, ◌+◌, ◌-◌, Bool, true, false, cond, not, ◌||◌, eqb, ltb, leb, List, [], ◌∷◌, map, filter, Some, None, Err, Option, sym, refl, ap, ◌∙◌, subst, arith}
 use Rattle.std.proofs.lemmas.Bool.{cond_both, cond-true, cond-false, both_ways, or_from}
 use Rattle.std.proofs.lemmas.List.{length-map}
-use Rattle.std.specs.List.{AllByRecursion}
+use Rattle.std.specs.List.{AllByRecursion, list_any}
 use Rattle.std.specs.Option.{option_map, ok_or}
 use mathlib.Core.List.{map-map}
 use mathlib.Core.Path.{fun_ext}
@@ -16,12 +16,13 @@ use Rattle.row.proofs.Accepted.{both}
 use Rattle.row.proofs.Ranges.{passed}
 use Rattle.floor.specs.Calls.{seat_of, spot, where_answer, chosen, refused_or, placed_on, place_answer, seated_on, seats_after_place}
 use Rattle.floor.specs.Formed.{formed}
-use Rattle.floor.specs.Refusals.{any, stands_by, stands, has_sites_by, has_sites, cell_refusal_by, cell_refusal, add_refusal, place_refusal_by, place_refusal}
+use Rattle.floor.specs.Refusals.{stands_by, stands, has_sites_by, has_sites, cell_refusal_by, cell_refusal, add_refusal, place_refusal_by, place_refusal}
 use Rattle.floor.specs.Rows.{same_row}
 use Rattle.floor.specs.Seats.{cells_by, seats_on, cells_on}
 use Rattle.floor.specs.declared.Refusal.{Refusal}
 use Rattle.floor.specs.declared.Refusal.TheVariants.{OutOfRange, NumberStands, CellsFull, NoRoom, NotStanding}
 use Rattle.floor.specs.declared.Seat.{Seat}
+use Rattle.floor.proofs.Anys.{any_map}
 use Rattle.floor.proofs.Best.{none_fits}
 use Rattle.floor.proofs.Tests.{none_any}
 use Rattle.history.specs.Events.{event_of}
@@ -30,11 +31,6 @@ use Rattle.history.specs.Law.{FullExactly}
 use Rattle.history.specs.declared.call.Call.{Call}
 use Rattle.history.specs.declared.call.Call.TheVariants.{AddRow, Place, Try, Withdraw}
 use Rattle.history.proofs.Held.{standing_of}
-
--- a test of what is mapped
-any_map : {X Y : Type 0} (f : X → Y) (test : Y → Bool) (xs : List X) → any test (map f xs) ≡ any (λ x. test (f x)) xs
-any_map f test [] = refl
-any_map f test (x ∷ xs) = ap (λ b. test (f x) || b) (any_map f test xs)
 
 -- what passes it
 pub kept_map : {X Y : Type 0} (f : X → Y) (test : Y → Bool) (xs : List X) → filter test (map f xs) ≡ map f (filter (λ x. test (f x)) xs)
@@ -45,9 +41,9 @@ kept_map f test (x ∷ xs) =
     (λ no. cond-false (test (f x)) (f x ∷ filter test (map f xs)) (filter test (map f xs)) no ∙ kept_map f test xs)
 
 -- none of a list passes a test that all of it fail
-any_none : {X : Type 0} (test : X → Bool) (xs : List X) → AllByRecursion (λ x. test x ≡ false) xs → any test xs ≡ false
+any_none : {X : Type 0} (test : X → Bool) (xs : List X) → AllByRecursion (λ x. test x ≡ false) xs → list_any test xs ≡ false
 any_none test [] h = refl
-any_none test (x ∷ xs) h = or_from (test x) (any test xs) h.0 (any_none test xs h.1)
+any_none test (x ∷ xs) h = or_from (test x) (list_any test xs) h.0 (any_none test xs h.1)
 
 -- the answer of a check is what it found
 checked_granted : {X E : Type 0} (o : Option E) (x : X) → checked (granted o x) ≡ o
@@ -78,7 +74,7 @@ module _ (seats : List Seat) where
 
   -- the checks of placing
   place_map : (rows : List Row) (cell : Cell) → place_refusal_by cell_of row_of rows all_standing cell ≡ place_refusal rows seats cell
-  place_map rows cell = λ i. then (cell_map cell i) (check (any (fun_ext (has_sites_map cell) i) rows) NoRoom None)
+  place_map rows cell = λ i. then (cell_map cell i) (check (list_any (fun_ext (has_sites_map cell) i) rows) NoRoom None)
 
   -- a number that stands is found
   found_checked : (number : ℕ) (some : List Seat) → checked (where_answer some number) ≡ check (stands number some) NotStanding None
@@ -92,15 +88,15 @@ module _ (seats : List Seat) where
 
 module _ (f : ℕ → ℕ → ℕ → ℕ) (all : List Row) (seats : List Seat) where
   -- a row is chosen where one has sites
-  row_checked : (cell : Cell) (o : Option Row) → chosen f seats cell all ≡ o → any (has_sites seats cell) all ≡ true → checked (placed_on f seats cell o) ≡ None
-  row_checked cell None is some = absurd (both_ways (any (has_sites seats cell) all) (any_none (has_sites seats cell) all (none_fits f seats cell all is)) some)
+  row_checked : (cell : Cell) (o : Option Row) → chosen f seats cell all ≡ o → list_any (has_sites seats cell) all ≡ true → checked (placed_on f seats cell o) ≡ None
+  row_checked cell None is some = absurd (both_ways (list_any (has_sites seats cell) all) (any_none (has_sites seats cell) all (none_fits f seats cell all is)) some)
   row_checked cell (Some row) is some = refl
 
   -- a placing is refused as its checks say, whatever they say
   refused_checked : (cell : Cell) (o : Option Refusal) → place_refusal all seats cell ≡ o → checked (refused_or o (placed_on f seats cell (chosen f seats cell all))) ≡ o
   refused_checked cell None is =
-      let rows = both (cell_refusal seats cell) (check (any (has_sites seats cell) all) NoRoom None) is in
-      row_checked cell (chosen f seats cell all) refl (passed (any (has_sites seats cell) all) NoRoom None rows.1).0
+      let rows = both (cell_refusal seats cell) (check (list_any (has_sites seats cell) all) NoRoom None) is in
+      row_checked cell (chosen f seats cell all) refl (passed (list_any (has_sites seats cell) all) NoRoom None rows.1).0
   refused_checked cell (Some refusal) is = refl
 
   -- a placing is refused as its checks say
@@ -140,7 +136,7 @@ module _ (f : ℕ → ℕ → ℕ → ℕ) (all : List Row) (seats : List Seat) 
   pub full_exactly : FullExactly all (map standing_of seats) cell (place_answer f all seats cell)
   full_exactly = (
     λ e.
-        let parts = last_fails (cell_refusal seats cell) (any (has_sites seats cell) all) (not_for_room (cell_fault cell) _ _) (sym (place_checked f all seats cell) ∙ ap checked e) in
+        let parts = last_fails (cell_refusal seats cell) (list_any (has_sites seats cell) all) (not_for_room (cell_fault cell) _ _) (sym (place_checked f all seats cell) ∙ ap checked e) in
         (cell_map seats cell ∙ parts.0, none_map (none_any (has_sites seats cell) all (ap not parts.1))),
     λ both.
         let free = sym (cell_map seats cell) ∙ both.0 in

@@ -3,7 +3,7 @@ use Rattle.std.proofs.Common.{◌≡◌, ℕ, ◌+◌, ◌-◌, ◌<◌, ◌≤�
 use Rattle.std.proofs.ByRecursion.{All-from_get_or, All-weaker}
 use Rattle.std.proofs.lemmas.Bool.{and_parts, and_from, or_cases, both_ways, le-leb, lt-ltb, eq-eqb}
 use Rattle.std.proofs.lemmas.List.{take-append-drop, map-append}
-use Rattle.std.specs.List.{AllByRecursion}
+use Rattle.std.specs.List.{AllByRecursion, list_any}
 use Rattle.std.specs.Option.{option_map, unwrap_or, ok_or}
 use mathlib.Core.List.{Permᴰ}
 use mathlib.Core.List.Permᴰ as perm
@@ -32,7 +32,7 @@ use Rattle.floor.proofs.Settling.{cells_pass, cells_in_order}
 use Rattle.floor.proofs.Tests.{pairs_all}
 use Rattle.floor.specs.Calls.{chosen, rise, seat_of, spot, where_answer, seated, refused_or, site_then, placed_on, place_answer, seated_on, seats_after_place}
 use Rattle.floor.specs.Formed.{every_pair, rows_formed, formed}
-use Rattle.floor.specs.Refusals.{any, has_sites, place_refusal}
+use Rattle.floor.specs.Refusals.{has_sites, place_refusal}
 use Rattle.floor.specs.Rows.{share}
 use Rattle.floor.specs.Seats.{site_of, seats_on, cells_on, new_seat, joined, floor_cost}
 use Rattle.floor.specs.Settled.{Settled}
@@ -79,7 +79,7 @@ module _ (all : List Row) (well : rows_formed all ≡ true) (row : Row) (among :
           (⊎_elim
           (λ here. absurd (both_ways (has_spot at r) is (subst (λ x. has_spot at x ≡ true) (sym (row_is row r here)) has)))
           (λ later. later)
-          (or_cases (is_row row r) (any (is_row row) rows) there))
+          (or_cases (is_row row r) (list_any (is_row row) rows) there))
 
 -- the row at a spot of a standing row is that row, in whatever order the rows are told
 pub row_at_is : (rows all : List Row) → rows_formed all ≡ true → Permᴰ rows all → (row : Row) → Among all row → (at : Spot) → has_spot at row ≡ true → row_at rows at ≡ row

@@ -1,7 +1,6 @@
 pub mod ByRows
 pub mod Decided
 pub mod Held
-pub mod Lived
 pub mod Perms
 pub mod Seated
 pub mod Steps

@@ -1,7 +1,7 @@
 -- What a list tells in whatever order: what holds of all, of any two, of a test, a sum; and so a setting, its cost, the law and the checks.
 use Rattle.std.proofs.Common.{◌≡◌, ℕ, suc, ◌+◌, ◌-◌, ◌≤◌, Bool, true, false, cond, not, ◌||◌, ltb, leb, List, ◌∷◌, length, map, filter, None, Result, sym, refl, ap, ◌∙◌, subst, arith}
 use Rattle.std.proofs.lemmas.Bool.{both_ways}
-use Rattle.std.specs.List.{AllByRecursion}
+use Rattle.std.specs.List.{AllByRecursion, list_any}
 use Rattle.std.specs.Option.{option_map}
 use mathlib.Core.List.{Permᴰ}
 use mathlib.Core.List.Permᴰ as perm
@@ -10,7 +10,7 @@ use Rattle.row.specs.Records.{check, then, cell_fault, row_fault, widths}
 use Rattle.row.specs.Settings.{EveryPair, Within, Clear, Rising}
 use Rattle.row.specs.declared.Cell.{Cell}
 use Rattle.row.specs.declared.Row.{Row}
-use Rattle.floor.specs.Refusals.{any, stands_by, has_sites_by, cell_refusal_by, add_refusal, place_refusal_by}
+use Rattle.floor.specs.Refusals.{stands_by, has_sites_by, cell_refusal_by, add_refusal, place_refusal_by}
 use Rattle.floor.specs.Rows.{same_row, share}
 use Rattle.floor.specs.Seats.{cell_cost}
 use Rattle.floor.specs.declared.Placing.{Placing}
@@ -51,10 +51,10 @@ or_swap false true z = refl
 or_swap false false z = refl
 
 -- whether one of a list passes a test
-pub any_perm : {X : Type 0} (test : X → Bool) {xs ys : List X} → Permᴰ xs ys → any test xs ≡ any test ys
+pub any_perm : {X : Type 0} (test : X → Bool) {xs ys : List X} → Permᴰ xs ys → list_any test xs ≡ list_any test ys
 any_perm test Permᴰ.nil = refl
 any_perm test (Permᴰ.cons e d) = λ i. test (e i) || any_perm test d i
-any_perm test (Permᴰ.swap {a = a} {b = b} {l = l} e f) = or_swap (test a) (test b) (any test l) ∙ ap (any test) (swapped l e f)
+any_perm test (Permᴰ.swap {a = a} {b = b} {l = l} e f) = or_swap (test a) (test b) (list_any test l) ∙ ap (list_any test) (swapped l e f)
 any_perm test (Permᴰ.trans d e) = any_perm test d ∙ any_perm test e
 
 -- how many there are
@@ -168,7 +168,7 @@ module _ {ks ls : List Standing} (d : Permᴰ ks ls) where
   -- the checks of placing
   place_perm : {rows all : List Row} → Permᴰ rows all → (cell : Cell) → place_refusal_by cell_of row_of rows ks cell ≡ place_refusal_by cell_of row_of all ls cell
   place_perm {rows} r cell =
-      let sites = ap (λ test. any test rows) (fun_ext (has_sites_perm cell)) ∙ any_perm (has_sites_by cell_of row_of ls cell) r in
+      let sites = ap (λ test. list_any test rows) (fun_ext (has_sites_perm cell)) ∙ any_perm (has_sites_by cell_of row_of ls cell) r in
       λ i. then (cell_perm cell i) (check (sites i) NoRoom None)
 
 -- what the checks decide

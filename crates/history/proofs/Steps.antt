@@ -1,5 +1,5 @@
 -- One call more: where a floor obeys the law, it obeys it once a call is made. And a floor that begins empty obeys it.
-use Rattle.std.proofs.Common.{◌≡◌, ℕ, ◌-◌, ◌≤◌, true, not, eqb, List, [], ◌∷◌, length, map, filter, take, drop, Some, None, Ok, Err, Option, Result, IfOk, sym, refl, ap, ◌∙◌, subst, arith}
+use Rattle.std.proofs.Common.{◌≡◌, ℕ, ◌≤◌, true, not, eqb, List, [], ◌∷◌, length, map, filter, take, drop, Some, None, Ok, Err, Option, Result, IfOk, sym, refl, ap, ◌∙◌, subst, arith}
 use Rattle.std.proofs.lemmas.List.{take-append-drop}
 use Rattle.std.specs.List.{insert}
 use Rattle.std.specs.Option.{option_map, ok_or}

@@ -3,7 +3,7 @@ use Rattle.std.proofs.Common.{◌≡◌, ℕ, ◌+◌, ◌≤◌, true, false, n
 use Rattle.std.proofs.ByRecursion.{All-weaker, All-map}
 use Rattle.std.proofs.lemmas.Bool.{and_parts, both_ways, or_cases}
 use Rattle.std.proofs.lemmas.List.Sums.{sum_by-cons}
-use Rattle.std.specs.List.{AllZip, AllByRecursion, sum_by, count_by}
+use Rattle.std.specs.List.{AllZip, AllByRecursion, sum_by, count_by, list_all, list_any}
 use Rattle.measure.specs.Costs.{Fair}
 use Rattle.row.specs.Records.{row_fault, row_ahead}
 use Rattle.row.specs.Settings.{Cheapest}
@@ -11,8 +11,7 @@ use Rattle.row.specs.Sites.{sites_cost}
 use Rattle.row.specs.declared.Row.{Row}
 use Rattle.row.proofs.Subject.{row_cheapest}
 use Rattle.floor.specs.Calls.{where_answer}
-use Rattle.floor.specs.Formed.{every, every_pair, formed}
-use Rattle.floor.specs.Refusals.{any}
+use Rattle.floor.specs.Formed.{every_pair, formed}
 use Rattle.floor.specs.Rows.{same_row, share}
 use Rattle.floor.specs.Seats.{on_row, seats_on, cell_of, site_of, cells_on, sites_on}
 use Rattle.floor.specs.Settled.{Settled}
@@ -36,7 +35,7 @@ ahead_apart a b ahead = (grind arith, grind arith)
 once : (rows : List Row) (row : Row) → every_pair row_ahead rows ≡ true → Standing rows row → count_by (same_row row) rows ≡ 1
 once [] row ordered stands = absurd (both_ways false refl stands)
 once (r ∷ rows) row ordered stands =
-    let parts = and_parts (every (row_ahead r) rows) (every_pair row_ahead rows) ordered in
+    let parts = and_parts (list_all (row_ahead r) rows) (every_pair row_ahead rows) ordered in
     let ahead = every_all (row_ahead r) rows parts.0 in
     ⊎_elim
     (λ here.
@@ -48,13 +47,13 @@ once (r ∷ rows) row ordered stands =
     (λ there.
     count_no (same_row row) r rows (ahead_apart r row (standing_all (λ q. row_ahead r q ≡ true) rows row ahead there)).1
     ∙ once rows row parts.1 there)
-    (or_cases (is_row row r) (any (is_row row) rows) stands)
+    (or_cases (is_row row r) (list_any (is_row row) rows) stands)
 
 -- every seat is on exactly one row
 on_one : (rows : List Row) (seats : List Seat) → formed rows seats ≡ true → AllByRecursion (OnOne on_row rows) seats
 on_one rows seats well =
     let listed = formed_listed rows seats well in
-    let parts = and_parts (every (λ r. not (is_some (row_fault r))) rows) (every_pair row_ahead rows && every_pair (λ a b. not (share a b)) rows) listed.well in
+    let parts = and_parts (list_all (λ r. not (is_some (row_fault r))) rows) (every_pair row_ahead rows && every_pair (λ a b. not (share a b)) rows) listed.well in
     let ordered = (and_parts (every_pair row_ahead rows) (every_pair (λ a b. not (share a b)) rows) parts.1).0 in
     All-weaker (λ s. Standing rows s.row) (OnOne on_row rows) (λ s. once rows s.row ordered) seats listed.stand
 

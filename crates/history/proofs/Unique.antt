@@ -10,7 +10,7 @@ use mathlib.Core.Path.{fun_ext}
 use Rattle.std.proofs.ByRecursion.{All-weaker}
 use Rattle.std.proofs.lemmas.Bool.{cases_Bool, both_ways, or_cases, or_left, or_right, cond_both, eqb-true, not_from_false, false_from_ne_true, true_from_ne_false}
 use Rattle.std.proofs.lemmas.Result.{IfOk-at_ok}
-use Rattle.std.specs.List.{AllByRecursion}
+use Rattle.std.specs.List.{AllByRecursion, list_any}
 use Rattle.row.specs.Checked.{checked}
 use Rattle.row.specs.Records.{row_fault, row_ahead}
 use Rattle.row.specs.Settings.{EveryPair, Within}
@@ -19,7 +19,7 @@ use Rattle.row.specs.declared.Row.{Row}
 use Rattle.row.specs.declared.Spot.{Spot}
 use Rattle.row.proofs.Accepted.{both, unmapped}
 use Rattle.row.proofs.Ranges.{passed, ranged, ranged_row}
-use Rattle.floor.specs.Refusals.{any, place_refusal_by, stands_by}
+use Rattle.floor.specs.Refusals.{place_refusal_by, stands_by}
 use Rattle.floor.specs.Rows.{same_row, share}
 use Rattle.floor.specs.declared.Placing.{Placing}
 use Rattle.floor.specs.declared.Refusal.{Refusal}
@@ -35,9 +35,9 @@ use Rattle.history.specs.declared.call.Event.{Event}
 use Rattle.history.specs.declared.call.Event.TheVariants as event
 
 -- where one of a list passes a test, what follows of each that passes
-any_gives : {X : Type 0} (test : X → Bool) (C : Type 0) (xs : List X) → AllByRecursion (λ x. test x ≡ true → C) xs → any test xs ≡ true → C
+any_gives : {X : Type 0} (test : X → Bool) (C : Type 0) (xs : List X) → AllByRecursion (λ x. test x ≡ true → C) xs → list_any test xs ≡ true → C
 any_gives test C [] each e = absurd (both_ways false refl e)
-any_gives test C (x ∷ xs) each e = ⊎_elim each.0 (any_gives test C xs each.1) (or_cases (test x) (any test xs) e)
+any_gives test C (x ∷ xs) each e = ⊎_elim each.0 (any_gives test C xs each.1) (or_cases (test x) (list_any test xs) e)
 
 -- where_is answers for a standing cell its row's line and a site
 abbrev Found : Where → Standing → Type 0
@@ -118,8 +118,8 @@ row_at_among : (rows : List Row) (spot : Spot) → Among rows (row_at rows spot)
 row_at_among [] spot = inr refl
 row_at_among (row ∷ rows) spot =
     cond_both (has_spot spot row) row (row_at rows spot) (λ r. Among (row ∷ rows) r ⊎ (r ≡ record { line = 0; left = 0; right = 0 }))
-    (λ here. inl (or_left (is_row row row) (any (is_row row) rows) (is_itself row)))
-    (λ there. ⊎_elim (λ among. inl (or_right (is_row (row_at rows spot) row) (any (is_row (row_at rows spot)) rows) among)) (λ none. inr none) (row_at_among rows spot))
+    (λ here. inl (or_left (is_row row row) (list_any (is_row row) rows) (is_itself row)))
+    (λ there. ⊎_elim (λ among. inl (or_right (is_row (row_at rows spot) row) (list_any (is_row (row_at rows spot)) rows) among)) (λ none. inr none) (row_at_among rows spot))
 
 -- so it is one of the rows, where a cell with a site lies within it
 within_among : (rows : List Row) (spot : Spot) (k : Standing) (at : ℕ → ℕ) → 1 ≤ k.cell.width → Within (row_at rows spot) (placed at k) → Among rows (row_at rows spot)

@@ -5,7 +5,7 @@
 --   rows_in         the rows that stand: a row stands once it is added
 --   standing_in     the cells that stand: a cell stands from the placing that granted it until a withdrawal grants its number
 --   decide          what the checks decide on a call: the first that fails, if one does
-use Rattle.std.specs.Prelude.{ℕ, Bool, not, cond, ◌&&◌, List, [], ◌∷◌, filter, Ok, Err, Option, Result, ◌==◌, nat_eq, nat_le, nat_lt}
+use Rattle.std.specs.Prelude.{Bool, not, cond, ◌&&◌, List, [], ◌∷◌, filter, Ok, Err, Option, ◌==◌, nat_eq, nat_le, nat_lt}
 use Rattle.row.specs.Checked.{checked}
 use Rattle.row.specs.declared.Cell.{Cell}
 use Rattle.row.specs.declared.Row.{Row}

@@ -1,32 +1,32 @@
 -- The floor at a job's end: the calls that its records ask for are made one after another, so it obeys the law for them.
 --   calls_are     what came of the calls is of the calls that the records ask for
 --   lives_at_end  the floor at the end obeys the law for what came of them; law_at_end: the same of a job's bytes
-use Rattle.std.proofs.Common.{◌≡◌, ℕ, zero, suc, Bool, true, false, cond, List, [], ◌∷◌, ◌++◌, map, reverse, Some, None, Ok, Err, Option, Result, MatchResult, refl, sym, ap, ◌∙◌, subst, append_assoc, append-nil}
+use Rattle.std.proofs.Common.{◌≡◌, ℕ, zero, suc, true, false, cond, List, [], ◌∷◌, ◌++◌, map, reverse, Some, None, Ok, Err, Option, Result, MatchResult, refl, sym, ap, ◌∙◌, subst, append_assoc, append-nil}
 use Rattle.std.proofs.lemmas.List.{reverse-append}
 use Rattle.measure.specs.Costs.{Fair}
 use Rattle.measure.specs.Names.{named_price, named_fair}
 use Rattle.measure.specs.declared.name.MeasureName.{MeasureName}
-use Rattle.floor.specs.Calls.{where_answer}
-use Rattle.floor.specs.State.{measure_of, seats_of}
+use Rattle.floor.specs.State.{measure_of, rows_of, seats_of}
 use Rattle.floor.specs.declared.floor.Floor.{Floor}
 use Rattle.floor.specs.declared.Refusal.{Refusal}
-use Rattle.history.specs.Events.{event_of, rows_then, seats_then}
+use Rattle.history.specs.Events.{rows_then, seats_then}
 use Rattle.history.specs.Histories.{call_of}
 use Rattle.history.specs.declared.call.Event.{Event}
 use Rattle.history.specs.declared.call.Event.TheVariants.{Added, Placed, Tried, Withdrawn}
-use Rattle.history.specs.Law.{Law}
-use Rattle.history.proofs.Lives.{Lives, lives_empty, lives_step}
+use Rattle.history.proofs.Lives.{Lives, lives_empty, lives_step, lives_cost}
+use Rattle.row.specs.declared.Row.{Row}
+use Rattle.floor.specs.declared.Seat.{Seat}
 use Rattle.history.proofs.Steps.{call_is}
 use Rattle.job.specs.Format.{Content}
 use Rattle.job.specs.Opening.{Opened, open_answer}
 use Rattle.job.specs.Reading.{next_answer, next_standing}
 use Rattle.job.specs.declared.record.Fault as unread
 use Rattle.run.proofs.Turns.{last_turn}
-use Rattle.run.specs.Jobs.{AtEnd, JobLaw, calls_by, record_calls, events_by, run_events, job_events}
+use Rattle.run.specs.Jobs.{AtEnd, JobLaw, calls_by, record_calls, events_by, run_events, job_events, job_end}
 use Rattle.run.specs.State.{State, started}
 use Rattle.run.specs.Steps.{state_left}
 use Rattle.run.specs.Texts.{enough, run_end}
-use Rattle.run.specs.Turns.{Said, ended_by, answer_said, event_said, event_in, call_in, name_in, passed, turn, turn_by}
+use Rattle.run.specs.Turns.{ended_by, answer_said, event_said, event_in, call_in, name_in, passed, turn, turn_by}
 
 -- an answer of the floor does not end a job
 answer_goes_on : {X : Type 0} (index : ℕ) (name : Option (List ℕ)) (line : X → List ℕ) (answer : Result X Refusal) → ended_by (answer_said index name line answer).fault ≡ false
@@ -92,10 +92,20 @@ module _ (price : ℕ → ℕ → ℕ → ℕ) where
             subst (λ (u : State). Lives price history u.rows u.seats) (sym (last_turn price last most (no_turn last refl)).1) lives
 
 -- the law of the floor at the end of a job that was opened
-pub law_at_end : (bytes : List ℕ) (job : Opened) (floor : Floor MeasureName) → open_answer bytes ≡ Ok job → measure_of floor ≡ job.measure → seats_of floor ≡ (run_end (named_price job.measure) (enough job.bytes) (started job.bytes [] [])).seats → AtEnd bytes (Some floor)
-law_at_end bytes job floor opens measure seats =
+pub law_at_end : (bytes : List ℕ) (job : Opened) (floor : Floor MeasureName) → open_answer bytes ≡ Ok job → measure_of floor ≡ job.measure → rows_of floor ≡ (job_end job).rows → seats_of floor ≡ (job_end job).seats → AtEnd bytes (Some floor)
+law_at_end bytes job floor opens measure rows seats =
     let price = named_price job.measure in
     let start : State = started job.bytes [] [] in
-    let lives = lives_at_end price (named_fair job.measure) (enough job.bytes) start [] refl (lives_empty price (named_fair job.measure)) in
-    let obeys : Law price (reverse (job_events job)) (where_answer (seats_of floor)) = subst (λ ss. Law price (reverse (job_events job)) (where_answer ss)) (sym seats) (subst (λ h. Law price h (where_answer (run_end price (enough job.bytes) start).seats)) (append-nil (reverse (job_events job))) lives.obeys.law) in
-    subst (λ answer. MatchResult answer (λ (j : Opened). JobLaw j floor) (λ fault. ⊥)) (sym opens) (record { measure = measure; made = calls_are price (enough job.bytes) start refl; law = obeys })
+    let at_end = lives_at_end price (named_fair job.measure) (enough job.bytes) start [] refl (lives_empty price (named_fair job.measure)) in
+    let lives : Lives price (reverse (job_events job)) (rows_of floor) (seats_of floor) =
+    subst (λ h. Lives price h (rows_of floor) (seats_of floor)) (append-nil (reverse (job_events job)))
+    (subst (λ (t : List Row × List Seat). Lives price (reverse (job_events job) ++ []) t.0 t.1) (sym (λ i. (rows i, seats i))) at_end) in
+    let told : JobLaw job floor = record {
+      measure = measure;
+      rows = rows;
+      seats = seats;
+      made = calls_are price (enough job.bytes) start refl;
+      law = lives.obeys.law;
+      costs = lives_cost price (reverse (job_events job)) (rows_of floor) (seats_of floor) lives;
+    } in
+    subst (λ answer. MatchResult answer (λ (j : Opened). JobLaw j floor) (λ fault. ⊥)) (sym opens) told

@@ -1,14 +1,17 @@
 -- What the records of a job ask of the floor, and the law of the floor at the job's end.
 --   record_calls       the calls that the records ask for, from where a reader stands, of at most so many records
 --   run_events         what came of them, from a state on
+--   job_calls, job_events, job_end     the calls that an open job's records ask for, what came of them, and the state at the end
 --   JobLaw             the floor at the end obeys the law for the calls that the job's records ask for
 --   AtEnd              the floor that is left of a job: none where the job is refused, and else one that obeys the law
-use Rattle.std.specs.Prelude.{◌≡◌, ℕ, zero, suc, ◌+◌, cond, List, [], ◌∷◌, map, reverse, length, Some, None, Ok, Err, Option, Result, MatchResult}
+use Rattle.std.specs.Prelude.{◌≡◌, ℕ, zero, suc, cond, List, [], ◌∷◌, map, reverse, Some, None, Ok, Err, Option, Result, MatchResult}
 use Rattle.floor.specs.Calls.{where_answer}
-use Rattle.floor.specs.State.{measure_of, seats_of}
+use Rattle.floor.specs.Seats.{floor_cost}
+use Rattle.floor.specs.State.{measure_of, rows_of, seats_of}
 use Rattle.floor.specs.declared.floor.Floor.{Floor}
-use Rattle.history.specs.Histories.{call_of}
+use Rattle.history.specs.Histories.{call_of, standing_in}
 use Rattle.history.specs.Law.{Law}
+use Rattle.history.specs.Settings.{site_in, cost}
 use Rattle.history.specs.declared.call.Call.{Call}
 use Rattle.history.specs.declared.call.Event.{Event}
 use Rattle.job.specs.Format.{Content}
@@ -19,7 +22,7 @@ use Rattle.measure.specs.Names.{named_price}
 use Rattle.measure.specs.declared.name.MeasureName.{MeasureName}
 use Rattle.run.specs.State.{State, started}
 use Rattle.run.specs.Steps.{state_left}
-use Rattle.run.specs.Texts.{enough}
+use Rattle.run.specs.Texts.{enough, run_end}
 use Rattle.run.specs.Turns.{call_in, event_in, turn}
 
 -- a record's call and those of the records after it; none at the job's end, and none from a record on that cannot be read
@@ -53,11 +56,19 @@ job_events job = run_events (named_price job.measure) (enough job.bytes) (starte
 abbrev pub job_calls : Opened → List Call
 job_calls job = record_calls (enough job.bytes) (at_start job.bytes)
 
--- The events, whose lines are the job's text, are those of the calls that the job's records ask for; and the floor, under the job's measure, obeys the law for them.
+-- the state at the end of an open job
+abbrev pub job_end : Opened → State
+job_end job = run_end (named_price job.measure) (enough job.bytes) (started job.bytes [] [])
+
+-- The floor has the job's measure, and the rows and seats of which the job's last lines tell. The events, whose lines are those of the steps, are those of the calls that the job's
+-- records ask for; the floor obeys the law for them, and costs the sum over what stands.
 pub record JobLaw (job : Opened) (floor : Floor MeasureName) : Type 0 where
   pub measure : measure_of floor ≡ job.measure
+  pub rows : rows_of floor ≡ (job_end job).rows
+  pub seats : seats_of floor ≡ (job_end job).seats
   pub made : map call_of (job_events job) ≡ job_calls job
   pub law : Law (named_price job.measure) (reverse (job_events job)) (where_answer (seats_of floor))
+  pub costs : floor_cost (named_price job.measure) (seats_of floor) ≡ cost (named_price job.measure) (standing_in (reverse (job_events job))) (site_in (where_answer (seats_of floor)))
 
 -- the floor that is left of a job: none where the job is refused at its opening, and else one that obeys the law
 abbrev pub AtEnd : List ℕ → Option (Floor MeasureName) → Type 0

@@ -1,8 +1,9 @@
 // Making a floor, and adding rows to it.
 ghost use Rattle.std.specs.Prelude.{◌≡◌, ℕ, [], IfOk};
+ghost use Rattle.std.specs.List.{list_any};
 ghost use Rattle.row.specs.Checked.{checked};
 ghost use Rattle.floor.specs.Calls.{rows_after};
-ghost use Rattle.floor.specs.Refusals.{any, add_refusal};
+ghost use Rattle.floor.specs.Refusals.{add_refusal};
 ghost use Rattle.floor.specs.Rows.{share};
 ghost use Rattle.floor.specs.Settled.{Settled};
 ghost use Rattle.floor.specs.State.{rows_of, seats_of};
@@ -23,7 +24,7 @@ fn shares(a: &Row, b: &Row) -> bool
 
 // Whether a row shares a site with one of some rows.
 fn shares_any(row: &Row, rows: &[Row]) -> bool
-    ensures { result ≡ any (share row.now) rows.now }
+    ensures { result ≡ list_any (share row.now) rows.now }
 {
     rows.iter().any(|other| shares(row, other))
 }

@@ -1,6 +1,6 @@
 use Rattle.std.proofs.Common.{◌≡◌, take, vec_items}
 use Rattle.floor.specs.State.{measure_of}
-use Rattle.history.proofs.Lived.{Lived}
+use Rattle.history.proofs.Lives.{Lived}
 use Rattle.history.proofs.life.carry_out.Given as goal
 
 -- the events so far are those of the calls so far, and the floor obeys the law for them

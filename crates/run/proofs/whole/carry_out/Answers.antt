@@ -20,4 +20,5 @@ returns-in_ok-put_cost-in-Ok-clause-law c =
     c.in_ok-put_steps-in-Ok.ensures.after refl ∙ (λ i. run_end (named_price (named i)) (enough (first i).reader.job) (first i)) in
     law_at_end c.args.bytes.now job c.into_floor.result opens
     (ap measure_of c.into_floor.ensures ∙ c.put_steps.ensures.same ∙ named)
+    (ap rows_of c.into_floor.ensures ∙ ap (λ (s : State). s.rows) last)
     (ap seats_of c.into_floor.ensures ∙ ap (λ (s : State). s.seats) last)

@@ -1,12 +1,11 @@
-use Rattle.std.proofs.Common.{eqb, ◌∙◌, rules, tests}
+use Rattle.std.proofs.Common.{eqb, rules, tests}
 use Rattle.std.proofs.lemmas.Iterator.{YieldsList-from_slice}
 use Rattle.std.proofs.lemmas.Iterator.Search.{any_from_yields_List}
 use Rattle.floor.specs.declared.Seat.{Seat}
-use Rattle.floor.proofs.Anys.{any_is}
 use Rattle.floor.proofs.seats.Seats.has_number.Goals as goal
 
 pub returns : goal.returns
 returns c =
     let seats = c.args.self.now.items.items in
     let test = λ (s : Seat). eqb s.cell.number c.args.number in
-    any_from_yields_List test _ _ c.any.result c.any.ensures.ran (YieldsList-from_slice seats cc) (λ x b q k. search (rules, tests)) ∙ any_is test seats
+    any_from_yields_List test _ _ c.any.result c.any.ensures.ran (YieldsList-from_slice seats cc) (λ x b q k. search (rules, tests))
