@@ -5,7 +5,7 @@ print the same bytes, and prints the ratio of their times.
     bench/compare.py                  builds both, and runs every job
     bench/compare.py small long       runs these jobs alone
     bench/compare.py --ours FILE      times this executable in the place of crates/legalize/out/legalize, and builds it not
-    bench/compare.py --rounds N       times each job N times (5)
+    bench/compare.py --rounds N       times each job N times (7)
 
 bench/README.md says what the columns mean. The exit status is 1 where an output differs.
 """
@@ -85,7 +85,7 @@ def print_growth(lines):
 def main():
     reader = argparse.ArgumentParser(description="Times `legalize` against an ordinary Rust program.")
     reader.add_argument("--ours", help="our executable, where it is built already")
-    reader.add_argument("--rounds", type=int, default=5, help="how often each job is timed")
+    reader.add_argument("--rounds", type=int, default=7, help="how often each job is timed")
     reader.add_argument("names", nargs="*", metavar="NAME", help="the jobs to run (all)")
     asked = reader.parse_args()
 

@@ -54,28 +54,24 @@ def one_row(measure, cells):
 
 
 def long(measure, seed):
-    """As many bytes as a job may have: on 32 rows some 700 cells stand, and then come tries, withdrawals and placings."""
+    """As many bytes as a job may have: on 32 rows come to stand some 700 cells, and then come placings, tries and withdrawals."""
     draw = random.Random(seed)
     rows, sites = 32, 150
     job = bytearray([measure]) + b"".join(row(line, 0, sites) for line in range(rows))
-    standing = []
-    while True:
-        act = PLACE if len(standing) < 700 else draw.choice([PLACE, TRY, WITHDRAW])
-        if act == WITHDRAW:
-            record = withdrawal(standing.pop(draw.randrange(len(standing))))
-        else:
-            number = draw.randrange(65_536)
-            record = cell(act, number, draw.randrange(sites), draw.randrange(rows), draw.randint(1, 8), draw.randint(1, 10))
-            if act == PLACE and number not in standing:
-                standing.append(number)
-        if len(job) + len(record) > LARGEST_JOB:
-            break
-        job += record
-    # A last try with a name takes the bytes that are left, where they suffice for it.
-    left = LARGEST_JOB - len(job) - len(cell(TRY, 0, 0, 0, 1, 1)) - 1
-    if left > 0:
-        job += cell(TRY, 0, 0, 0, 1, 1, b"n" * left)
-    return bytes(job)
+    placed = []
+    while len(job) < LARGEST_JOB - 100:
+        kind = PLACE if len(placed) < 700 else draw.choice([PLACE, TRY, WITHDRAW])
+        if kind == WITHDRAW:
+            job += withdrawal(placed.pop(draw.randrange(len(placed))))
+            continue
+        number = draw.randrange(65_536)
+        wanted = draw.randrange(sites), draw.randrange(rows)
+        job += cell(kind, number, *wanted, draw.randint(1, 8), draw.randint(1, 10))
+        if kind == PLACE and number not in placed:
+            placed.append(number)
+    # The name of one more try takes the bytes that are left.
+    last = cell(TRY, 0, 0, 0, 1, 1, b"n")
+    return bytes(job) + cell(TRY, 0, 0, 0, 1, 1, b"n" * (LARGEST_JOB - len(job) - len(last) + 1))
 
 
 def jobs():
