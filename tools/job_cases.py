@@ -32,69 +32,82 @@ class Refused(Exception):
         self.number, self.place = number, place
 
 
+def check_opening(job):
+    """The refusals of opening a job."""
+    if len(job) > 65535:
+        raise Refused(12, 0)
+    if len(job) == 0:
+        raise Refused(15, 0)
+    if job[0] > 1:
+        raise Refused(19, 0)
+
+
+def read_record(job, at):
+    """The record at a place: its kind, the fields that it has, and the place after it."""
+
+    def pull():
+        nonlocal at
+        if at >= len(job):
+            raise Refused(15, len(job))
+        at += 1
+        return job[at - 1]
+
+    kind = pull()
+    if kind not in KINDS:
+        raise Refused(16, at - 1)
+    _, fields, required = KINDS[kind]
+    bits = pull()
+    there = [f for k, f in enumerate(fields) if bits & (1 << k)]
+    if bits >= 1 << len(fields) or not required <= set(there):
+        raise Refused(17, at - 1)
+    got = {}
+    for f in there:
+        if f == "name":
+            size = pull()
+            if size == 0:
+                raise Refused(18, at - 1)
+            text = ""
+            while len(text) < size:
+                byte = pull()
+                if not 0x21 <= byte <= 0x7E:
+                    raise Refused(18, at - 1)
+                text += chr(byte)
+            got[f] = text
+        else:
+            low = pull()
+            got[f] = low | pull() << 8
+    return kind, got, at
+
+
+def value(got, field):
+    """What a field counts as: what it holds, or what it counts as where it is absent."""
+    return got.get(field, ABSENT.get(field, 0))
+
+
+def listed(kind, got):
+    """The text of a record."""
+    word, fields, _ = KINDS[kind]
+    if kind == 1:
+        return "row " + " ".join(f"{f} {value(got, f)}" for f in fields)
+    if kind == 3:
+        return f"withdraw {value(got, 'number')}"
+    text = f"{word} {value(got, 'number')} " + " ".join(f"{f} {value(got, f)}" for f in fields[1:5])
+    return text + (f" name {got['name']}" if "name" in got else "")
+
+
 def listing(job):
     """The lines of a job."""
-    lines = []
-    index = 0
+    lines, index, at = [], 0, 1
     try:
-        if len(job) > 65535:
-            raise Refused(12, 0)
-        if len(job) == 0:
-            raise Refused(15, 0)
-        if job[0] > 1:
-            raise Refused(19, 0)
+        check_opening(job)
         lines.append("measure " + ["squared", "plain"][job[0]])
-        rest = list(enumerate(job))[1:]
-        while rest:
-            line, rest = one_record(job, rest)
-            lines.append(f"{index} {line}")
+        while at < len(job):
+            kind, got, at = read_record(job, at)
+            lines.append(f"{index} {listed(kind, got)}")
             index += 1
     except Refused as r:
         lines.append(f"{index} bad byte {r.place}: refusal {r.number}, {WHY[r.number]}")
     return lines
-
-
-def pull(job, rest):
-    if not rest:
-        raise Refused(15, len(job))
-    return rest[0], rest[1:]
-
-
-def one_record(job, rest):
-    (place, kind), rest = pull(job, rest)
-    if kind not in KINDS:
-        raise Refused(16, place)
-    word, fields, required = KINDS[kind]
-    (place, bits), rest = pull(job, rest)
-    there = [f for k, f in enumerate(fields) if bits & (1 << k)]
-    if bits >= 1 << len(fields) or not required <= set(there):
-        raise Refused(17, place)
-    got = {}
-    for f in there:
-        if f == "name":
-            (place, size), rest = pull(job, rest)
-            if size == 0:
-                raise Refused(18, place)
-            text = ""
-            while len(text) < size:
-                (place, byte), rest = pull(job, rest)
-                if not 0x21 <= byte <= 0x7E:
-                    raise Refused(18, place)
-                text += chr(byte)
-            got[f] = text
-        else:
-            (_, low), rest = pull(job, rest)
-            (_, high), rest = pull(job, rest)
-            got[f] = low | high << 8
-    value = lambda f: got.get(f, ABSENT.get(f, 0))
-    if kind == 1:
-        return "row " + " ".join(f"{f} {value(f)}" for f in fields), rest
-    if kind == 3:
-        return f"withdraw {value('number')}", rest
-    text = f"{word} {value('number')} " + " ".join(f"{f} {value(f)}" for f in fields[1:5])
-    if "name" in got:
-        text += " name " + got["name"]
-    return text, rest
 
 
 def record(kind, bits, name=None, seed=0):
@@ -188,4 +201,5 @@ def main():
             f.write("\n".join([f"case {n}"] + listing(job)) + "\n")
 
 
-main()
+if __name__ == "__main__":
+    main()

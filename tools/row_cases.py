@@ -8,6 +8,7 @@ leftmost. No cluster is formed here. Refusals are the first check that fails, in
     tools/row_cases.py        writes crates/row_cases/stdin and crates/row_cases/stdout
 """
 import pathlib, random
+from itertools import accumulate
 
 ROOT = pathlib.Path(__file__).resolve().parent.parent / "crates" / "row_cases"
 
@@ -42,30 +43,21 @@ def refusal(row, buffer, cells):
 
 
 def cheapest(measure, row, cells):
-    """the cheapest cost, and of the cheapest settings the leftmost: best[k][x] is the least cost of the cells from k on
-    where none starts before x"""
+    """the cheapest cost, and of the cheapest settings the leftmost: best[k][j] is the least cost of the cells from k on where none
+    starts left of its first site and j more; a cell's first site is where it stands when all before it abut from the left end"""
     _, left, right = row
-    best = [dict() for _ in range(len(cells) + 1)]
-    for x in range(left, right + 1):
-        best[len(cells)][x] = 0
-    for k in range(len(cells) - 1, -1, -1):
-        _, site, _, width, weight = cells[k]
-        least = None
-        for x in range(right - width, left - 1, -1):
-            rest = best[k + 1].get(x + width)
-            if rest is not None:
-                cost = price(measure, site, weight, x) + rest
-                least = cost if least is None or cost < least else least
-            if least is not None:
-                best[k][x] = least
-    sites, x = [], left
-    for k, (_, site, _, width, weight) in enumerate(cells):
-        goal = best[k][x]
-        while price(measure, site, weight, x) + best[k + 1][x + width] != goal:
-            x += 1
-        sites.append(x)
-        x += width
-    return best[0][left] if cells else 0, sites
+    firsts = list(accumulate((cell[3] for cell in cells), initial=left))
+    free = right - firsts.pop() + 1
+    best = [[0] * free]
+    for (_, site, _, _, weight), first in zip(reversed(cells), reversed(firsts)):
+        costs = [price(measure, site, weight, first + j) + rest for j, rest in enumerate(best[0])]
+        best.insert(0, list(accumulate(reversed(costs), min))[::-1])
+    sites, j = [], 0
+    for k, (_, site, _, _, weight) in enumerate(cells):
+        while price(measure, site, weight, firsts[k] + j) + best[k + 1][j] != best[k][j]:
+            j += 1
+        sites.append(firsts[k] + j)
+    return best[0][0], sites
 
 
 def cases():

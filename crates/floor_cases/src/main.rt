@@ -1,6 +1,7 @@
 // Runs a table of calls on floors, a line each, and prints what each call answers.
 // A line is one of: floor MEASURE (a new floor; the line itself is printed); row LINE LEFT RIGHT;
-// place NUMBER SITE LINE WIDTH WEIGHT; where NUMBER; cost. An answer is what the call gives, or `no` and the refusal's number.
+// place NUMBER SITE LINE WIDTH WEIGHT; try, with the same five; withdraw NUMBER; where NUMBER; cost.
+// An answer is what the call gives (for a withdrawal, where the cell stood), or `no` and the refusal's number.
 #![tactic(auto)]
 
 use anyhow::{Context, bail};
@@ -78,6 +79,8 @@ fn call(floor: &mut Floor<MeasureName>, line: &str) -> anyhow::Result<Result<Ans
     Ok(match words.next() {
         Some("row") => floor.add_row(row_of(words)?).map(|()| Answer::Done),
         Some("place") => floor.place(cell_of(words)?).map(Answer::Placed),
+        Some("try") => floor.try_place(cell_of(words)?).map(Answer::Placed),
+        Some("withdraw") => floor.withdraw(number(words.next())?).map(Answer::Stands),
         Some("where") => floor.where_is(number(words.next())?).map(Answer::Stands),
         Some("cost") => Ok(Answer::Costs(floor.cost())),
         _ => bail!("a line is no call"),

@@ -2,17 +2,17 @@
 --   Lives                     tables of a floor that obeys the law for a history
 --   lives_empty, lives_step   an empty floor does, and each call leaves one that does
 --   Lived                     a floor that lives by what came of some calls
---   lived_empty, lived_more   of no calls, and of one call more
-use Rattle.std.proofs.Common.{◌≡◌, ℕ, ◌≤◌, true, List, [], ◌∷◌, ◌++◌, map, reverse, length, Some, None, Option, refl, sym, ap, ◌∙◌, subst, arith}
+--   lived_empty, lived_more   of no calls, and of one call more; lived_lawful: it is lawful
+use Rattle.std.proofs.Common.{◌≡◌, ℕ, ◌≤◌, true, List, [], ◌∷◌, ◌++◌, map, reverse, length, Some, None, Option, vec_items, refl, sym, ap, ◌∙◌, subst, arith}
 use Rattle.std.proofs.lemmas.List.{map-append, reverse-append}
 use Rattle.measure.specs.Costs.{Fair}
 use Rattle.row.specs.Sites.{row_sites}
 use Rattle.row.specs.Task.{changed}
 use Rattle.row.specs.declared.Row.{Row}
-use Rattle.floor.specs.Calls.{seat_of, without, seats_less, with_row}
+use Rattle.floor.specs.Calls.{seat_of, where_answer, without, seats_less, with_row}
 use Rattle.floor.specs.Formed.{formed}
 use Rattle.floor.specs.Refusals.{add_refusal}
-use Rattle.floor.specs.Seats.{cells_on}
+use Rattle.floor.specs.Seats.{cells_on, floor_cost}
 use Rattle.floor.specs.State.{rows_of, seats_of}
 use Rattle.floor.specs.declared.Refusal.{Refusal}
 use Rattle.floor.specs.declared.Seat.{Seat}
@@ -20,10 +20,14 @@ use Rattle.floor.specs.declared.floor.Floor.{Floor}
 use Rattle.floor.proofs.Leaving.{withdraw_formed, without_few}
 use Rattle.floor.proofs.Resited.{resited_length}
 use Rattle.floor.proofs.Rowed.{row_added}
+use Rattle.history.proofs.Grants.{answered_cost}
 use Rattle.history.proofs.Held.{Obeys}
 use Rattle.history.proofs.Steps.{call_is, obeys_empty, obeys_step, place_formed, place_few}
 use Rattle.history.specs.Events.{event_of, rows_then, seats_then}
-use Rattle.history.specs.Histories.{call_of}
+use Rattle.history.specs.Histories.{call_of, standing_in}
+use Rattle.history.specs.Lives.{Lawful}
+use Rattle.history.specs.Settings.{site_in, cost}
+use Rattle.history.specs.declared.life.Life.{Life}
 use Rattle.history.specs.declared.call.Call.{Call}
 use Rattle.history.specs.declared.call.Call.TheVariants.{AddRow, Place, Try, Withdraw}
 use Rattle.history.specs.declared.call.Event.{Event}
@@ -46,6 +50,10 @@ pub record Lives (f : ℕ → ℕ → ℕ → ℕ) (history : List Event) (rows 
   pub well : formed rows seats ≡ true
   pub few : length seats ≤ 1024
   pub obeys : Obeys f history rows seats
+
+-- what the floor costs is the sum over what stands
+pub lives_cost : (f : ℕ → ℕ → ℕ → ℕ) (history : List Event) (rows : List Row) (seats : List Seat) → Lives f history rows seats → floor_cost f seats ≡ cost f (standing_in history) (site_in (where_answer seats))
+lives_cost f history rows seats lives = sym (answered_cost f rows seats lives.well (standing_in history) lives.obeys.held.cells_are)
 
 -- an empty floor does ..
 pub lives_empty : (f : ℕ → ℕ → ℕ → ℕ) → Fair f → Lives f [] [] []
@@ -77,6 +85,14 @@ module _ (f : ℕ → ℕ → ℕ → ℕ) (fair : Fair f) (history : List Event
 pub record Lived {M : Type 0} (f : ℕ → ℕ → ℕ → ℕ) (calls : List Call) (floor : Floor M) (events : List Event) : Type 0 where
   pub made : map call_of events ≡ calls
   pub lives : Lives f (reverse events) (rows_of floor) (seats_of floor)
+
+-- such a floor is lawful
+pub lived_lawful : {M : Type 0} (f : ℕ → ℕ → ℕ → ℕ) (calls : List Call) (life : Life M) → Lived f calls life.floor (vec_items life.events) → Lawful f calls life
+lived_lawful f calls life lived = record {
+  made = lived.made;
+  law = lived.lives.obeys.law;
+  costs = lives_cost f (reverse (vec_items life.events)) (rows_of life.floor) (seats_of life.floor) lived.lives;
+}
 
 module _ {M : Type 0} (f : ℕ → ℕ → ℕ → ℕ) (fair : Fair f) where
   -- no call is made yet

@@ -14,3 +14,4 @@ pub mod Stacked
 pub mod Subject
 pub mod Theory
 pub mod Writes
+pub mod Lone

@@ -2,8 +2,8 @@
 ghost use Rattle.std.specs.Prelude.{◌≡◌, ◌+◌, ◌<◌, length};
 ghost use Rattle.row.specs.Stack.{InPlaces, AtBest, Follows, Bracketed, Holds};
 
-use crate::MOST_CELLS;
 use crate::task::Task;
+use crate::{Cell, MOST_CELLS};
 use arrayvec::ArrayVec;
 use measure::Measure;
 
@@ -36,9 +36,11 @@ impl<'a, M: Measure> Task<'a, M> {
         ensures { AtBest (M.price self.now.measure.now) self.now.row self.now.cells.now first (first + 1) result }
     {
         let past = first + 1;
-        let width = self.cells[first].width;
+        let Cell { wanted, width, .. } = self.cells[first];
         let last = self.row.right - width;
-        let site = self.part(first, past).best_between(self.row.left, last);
+        // At its wanted site a cell costs nothing, so that it stands best there or before.
+        let high = wanted.site.max(self.row.left).min(last);
+        let site = self.part(first, past).best_between(self.row.left, high);
         Cluster {
             first,
             past,

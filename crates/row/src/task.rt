@@ -1,5 +1,5 @@
 // The task of setting a row: what its cells' moves cost, where they rise, and where they stand best together.
-ghost use Rattle.std.specs.Prelude.{◌≡◌, ◌+◌, ◌-◌, ◌≤◌, length};
+ghost use Rattle.std.specs.Prelude.{◌≡◌, ◌+◌, ◌-◌, ◌<◌, ◌≤◌, length};
 ghost use Rattle.std.specs.List.{AllByRecursion, between};
 ghost use Rattle.std.proofs.Props.{props};
 ghost use Rattle.row.specs.Records.{widths};
@@ -16,6 +16,20 @@ pub(crate) struct Task<'a, M: Measure> {
     pub(crate) row: Row,
     pub(crate) cells: &'a [Cell],
     ghost ready: { Ready row cells.now } by { Prim.hlevel props },
+}
+
+// Where to look next between two starts: a step before the second, or in the middle where the step is longer than what is between them.
+fn probe(from: u32, to: u32, step: u32) -> u32
+    requires some { from < to }
+    requires forward { 1 ≤ step }
+    ensures at { from ≤ result }
+    ensures before { result < to }
+{
+    if step < to - from {
+        to - step
+    } else {
+        from + (to - from) / 2
+    }
 }
 
 impl<'a, M: Measure> Task<'a, M> {
@@ -51,6 +65,7 @@ impl<'a, M: Measure> Task<'a, M> {
     }
 
     // The least start from `low` to `high` that is `high` or where the rise of the cells is at least 0.
+    // It is mostly near `high`: sought from there in steps that double, and then by halving what is left.
     pub(crate) fn best_between(&self, low: u32, high: u32) -> u32
         requires some { low ≤ high }
         requires inside { high + widths self.now.cells.now ≤ 65535 }
@@ -58,14 +73,16 @@ impl<'a, M: Measure> Task<'a, M> {
     {
         let mut from = low;
         let mut to = high;
-        // Halved by hand, since std's `partition_point` halves a slice, and this is a range of sites.
+        let mut step: u32 = 1;
+        // By hand, since std's `partition_point` halves a slice, and this is a range of sites.
         while from < to {
-            let middle = from + (to - from) / 2;
-            let climbs = self.rise_from(middle) >= 0;
+            let probe = probe(from, to, step);
+            let climbs = self.rise_from(probe) >= 0;
             if climbs {
-                to = middle;
+                to = probe;
+                step = step.saturating_mul(2);
             } else {
-                from = middle + 1;
+                from = probe + 1;
             }
         }
         from

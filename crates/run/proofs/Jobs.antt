@@ -6,7 +6,6 @@ use Rattle.std.proofs.lemmas.List.{reverse-append}
 use Rattle.measure.specs.Costs.{Fair}
 use Rattle.measure.specs.Names.{named_price, named_fair}
 use Rattle.measure.specs.declared.name.MeasureName.{MeasureName}
-use Rattle.floor.specs.Calls.{where_answer}
 use Rattle.floor.specs.State.{measure_of, rows_of, seats_of}
 use Rattle.floor.specs.declared.floor.Floor.{Floor}
 use Rattle.floor.specs.declared.Refusal.{Refusal}
@@ -14,8 +13,9 @@ use Rattle.history.specs.Events.{rows_then, seats_then}
 use Rattle.history.specs.Histories.{call_of}
 use Rattle.history.specs.declared.call.Event.{Event}
 use Rattle.history.specs.declared.call.Event.TheVariants.{Added, Placed, Tried, Withdrawn}
-use Rattle.history.specs.Law.{Law}
-use Rattle.history.proofs.Lives.{Lives, lives_empty, lives_step}
+use Rattle.history.proofs.Lives.{Lives, lives_empty, lives_step, lives_cost}
+use Rattle.row.specs.declared.Row.{Row}
+use Rattle.floor.specs.declared.Seat.{Seat}
 use Rattle.history.proofs.Steps.{call_is}
 use Rattle.job.specs.Format.{Content}
 use Rattle.job.specs.Opening.{Opened, open_answer}
@@ -96,13 +96,16 @@ pub law_at_end : (bytes : List ℕ) (job : Opened) (floor : Floor MeasureName) �
 law_at_end bytes job floor opens measure rows seats =
     let price = named_price job.measure in
     let start : State = started job.bytes [] [] in
-    let lives = lives_at_end price (named_fair job.measure) (enough job.bytes) start [] refl (lives_empty price (named_fair job.measure)) in
-    let obeys : Law price (reverse (job_events job) ++ []) (where_answer (seats_of floor)) = subst (λ ss. Law price (reverse (job_events job) ++ []) (where_answer ss)) (sym seats) lives.obeys.law in
+    let at_end = lives_at_end price (named_fair job.measure) (enough job.bytes) start [] refl (lives_empty price (named_fair job.measure)) in
+    let lives : Lives price (reverse (job_events job)) (rows_of floor) (seats_of floor) =
+    subst (λ h. Lives price h (rows_of floor) (seats_of floor)) (append-nil (reverse (job_events job)))
+    (subst (λ (t : List Row × List Seat). Lives price (reverse (job_events job) ++ []) t.0 t.1) (sym (λ i. (rows i, seats i))) at_end) in
     let told : JobLaw job floor = record {
       measure = measure;
       rows = rows;
       seats = seats;
       made = calls_are price (enough job.bytes) start refl;
-      law = subst (λ h. Law price h (where_answer (seats_of floor))) (append-nil (reverse (job_events job))) obeys;
+      law = lives.obeys.law;
+      costs = lives_cost price (reverse (job_events job)) (rows_of floor) (seats_of floor) lives;
     } in
     subst (λ answer. MatchResult answer (λ (j : Opened). JobLaw j floor) (λ fault. ⊥)) (sym opens) told

@@ -6,10 +6,12 @@
 --   AtEnd              the floor that is left of a job: none where the job is refused, and else one that obeys the law
 use Rattle.std.specs.Prelude.{◌≡◌, ℕ, zero, suc, cond, List, [], ◌∷◌, map, reverse, Some, None, Ok, Err, Option, Result, MatchResult}
 use Rattle.floor.specs.Calls.{where_answer}
+use Rattle.floor.specs.Seats.{floor_cost}
 use Rattle.floor.specs.State.{measure_of, rows_of, seats_of}
 use Rattle.floor.specs.declared.floor.Floor.{Floor}
-use Rattle.history.specs.Histories.{call_of}
+use Rattle.history.specs.Histories.{call_of, standing_in}
 use Rattle.history.specs.Law.{Law}
+use Rattle.history.specs.Settings.{site_in, cost}
 use Rattle.history.specs.declared.call.Call.{Call}
 use Rattle.history.specs.declared.call.Event.{Event}
 use Rattle.job.specs.Format.{Content}
@@ -59,13 +61,14 @@ abbrev pub job_end : Opened → State
 job_end job = run_end (named_price job.measure) (enough job.bytes) (started job.bytes [] [])
 
 -- The floor has the job's measure, and the rows and seats of which the job's last lines tell. The events, whose lines are those of the steps, are those of the calls that the job's
--- records ask for; and the floor obeys the law for them.
+-- records ask for; the floor obeys the law for them, and costs the sum over what stands.
 pub record JobLaw (job : Opened) (floor : Floor MeasureName) : Type 0 where
   pub measure : measure_of floor ≡ job.measure
   pub rows : rows_of floor ≡ (job_end job).rows
   pub seats : seats_of floor ≡ (job_end job).seats
   pub made : map call_of (job_events job) ≡ job_calls job
   pub law : Law (named_price job.measure) (reverse (job_events job)) (where_answer (seats_of floor))
+  pub costs : floor_cost (named_price job.measure) (seats_of floor) ≡ cost (named_price job.measure) (standing_in (reverse (job_events job))) (site_in (where_answer (seats_of floor)))
 
 -- the floor that is left of a job: none where the job is refused at its opening, and else one that obeys the law
 abbrev pub AtEnd : List ℕ → Option (Floor MeasureName) → Type 0
