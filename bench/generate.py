@@ -53,6 +53,13 @@ def one_row(measure, cells):
     return bytes([measure]) + b"".join(records)
 
 
+def one_row_wide(measure, cells):
+    """The longest row, and cells that all want one site and nearly fill it, so that a best site is sought among many."""
+    records = [row(0, 0, 65_535)]
+    records += [cell(PLACE, number, 30_000, 0, 65_535 // cells, 1) for number in range(cells)]
+    return bytes([measure]) + b"".join(records)
+
+
 def long(measure, seed):
     """As many bytes as a job may have: on 32 rows come to stand some 700 cells, and then come placings, tries and withdrawals."""
     draw = random.Random(seed)
@@ -84,6 +91,8 @@ def jobs():
         "long": long(SQUARED, 3),
         **{f"one_row_squared_{cells}": one_row(SQUARED, cells) for cells in GROWTH},
         **{f"one_row_plain_{cells}": one_row(PLAIN, cells) for cells in GROWTH},
+        "one_row_squared_wide": one_row_wide(SQUARED, 1024),
+        "one_row_plain_wide": one_row_wide(PLAIN, 1024),
     }
 
 
