@@ -4,7 +4,7 @@ print the same bytes, and prints the ratio of their times.
 
     bench/compare.py                  builds both, and runs every job
     bench/compare.py small long       runs these jobs alone
-    bench/compare.py --ours FILE      times this executable in the place of crates/legalize/out/legalize, and builds it not
+    bench/compare.py --ours FILE      times this executable in the place of crates/legalize/out/legalize, which is then not built
     bench/compare.py --rounds N       times each job N times (7)
 
 bench/README.md says what the columns mean. The exit status is 1 where an output differs.
