@@ -72,11 +72,13 @@ def compare(name, job, programs, rounds, folder):
 
 
 def print_growth(lines):
-    """How the times grow with the number of cells in one row."""
+    """How the times grow with the number of cells in one row, where both measures were timed."""
+    both_of = {cells: [lines.get(f"one_row_{measure}_{cells}") for measure in ("squared", "plain")] for cells in generate.GROWTH}
+    if not any(map(all, both_of.values())):
+        return
     print("\n| cells in one row | squared: ours ms | Rust ms | ratio | plain: ours ms | Rust ms | ratio |")
     print("|---:|---:|---:|---:|---:|---:|---:|")
-    for cells in generate.GROWTH:
-        both = [lines.get(f"one_row_{measure}_{cells}") for measure in ("squared", "plain")]
+    for cells, both in both_of.items():
         if all(both):
             times = (f"{1000 * ours:.2f} | {1000 * rust:.2f} | {ours / rust:.2f}" for *_, ours, rust in both)
             print(f"| {cells:,} | {' | '.join(times)} |")
@@ -109,8 +111,7 @@ def main():
             length, count, ours, rust = line
             times = f"{1000 * ours:.2f} | {1000 * rust:.2f} | {ours / rust:.2f}"
             print(f"| {name} | {length:,} | {count:,} | {times} |", flush=True)
-    if any(f"one_row_squared_{cells}" in lines for cells in generate.GROWTH):
-        print_growth(lines)
+    print_growth(lines)
     if differ:
         sys.exit(f"outputs differ: {', '.join(differ)}")
 
