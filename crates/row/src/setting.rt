@@ -9,7 +9,7 @@ ghost use Rattle.row.specs.Task.{set_answer, set_sites};
 use crate::check::check;
 use crate::cluster::{Cluster, Clusters};
 use crate::task::Task;
-use crate::{Cell, MOST_CELLS, Refusal, Row};
+use crate::{Cell, FEW_CELLS, MOST_CELLS, Refusal, Row};
 use measure::Measure;
 
 // Writes the sites of cells that abut from `start` on.
@@ -38,9 +38,6 @@ fn lay_one(cells: &[Cell], cluster: Cluster, sites: &mut [u32])
     let past = cluster.past;
     abut_from(&cells[first..past], cluster.site, &mut sites[first..past]);
 }
-
-// How many cells most rows have at most.
-const FEW_CELLS: usize = 32;
 
 impl<'a, M: Measure> Task<'a, M> {
     // Fills `sites` with the sites of the row's cells, and answers what they cost. It keeps the clusters in a list that it is lent, empty and with room for a cluster of each cell.
