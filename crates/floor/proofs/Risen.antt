@@ -109,7 +109,7 @@ module _ (f : ℕ → ℕ → ℕ → ℕ) where
       pub never_less : row_cost f row seats ≤ row_cost f row (seated f seats cell row)
       never_less =
           let before : row_cost f row seats ≡ set_cost (cells_on row seats) = ap (sites_cost f (cells_on row seats)) was_set in
-          let after = seated_cost fair seats row cell passes new in
+          let after = seated_cost fair seats row cell new in
           let less = fewer_costs f row fair (map cell_of front) cell (map cell_of back) (length (map cell_of front ++ map cell_of back)) (length (map cell_of front ++ (cell ∷ map cell_of back)))
           (accepted row (map cell_of front ++ map cell_of back) (length (map cell_of front ++ map cell_of back)) (subst (Ready row) old_parts old))
           (accepted row (map cell_of front ++ (cell ∷ map cell_of back)) (length (map cell_of front ++ (cell ∷ map cell_of back))) (subst (Ready row) new_parts new)) in

@@ -1,7 +1,7 @@
 -- The rise of a row, as the program adds it up.
 use Rattle.std.proofs.Common.{◌≡◌, ℕ, ◌*◌, ◌^◌, ◌≤◌, List, [], ◌∷◌, length, ap, ◌∙◌, arith}
 use Rattle.std.specs.List.{AllByRecursion}
-use Rattle.measure.specs.Costs.{Fair, InRange, cost_of}
+use Rattle.measure.specs.Costs.{Fair, cost_of}
 use Rattle.row.specs.Sites.{row_sites, sites_cost}
 use Rattle.row.specs.Stack.{Passes, Ready}
 use Rattle.row.specs.declared.Cell.{Cell}
@@ -26,7 +26,7 @@ cost_bounded fair (c ∷ cs) (y ∷ ys) pass places =
     let more = cost_bounded fair cs ys pass.1 places.1 in
     omega arith
 
-module _ {f : ℕ → ℕ → ℕ → ℕ} (fair : Fair f) (seats : List Seat) (row : Row) (cell : Cell) (passes : Passes cell) (ready : Ready row (cells_on row (joined row cell seats))) where
+module _ {f : ℕ → ℕ → ℕ → ℕ} (fair : Fair f) (seats : List Seat) (row : Row) (cell : Cell) (ready : Ready row (cells_on row (joined row cell seats))) where
   abbrev cs : List Cell
   cs = cells_on row (joined row cell seats)
 
@@ -36,21 +36,17 @@ module _ {f : ℕ → ℕ → ℕ → ℕ} (fair : Fair f) (seats : List Seat) (
       (λ i. sites_cost f (resited_cells_on row (row_sites f row cs) (joined row cell seats) i) (sites_on row (seated f seats cell row)))
       ∙ ap (sites_cost f cs) (resited_sites_on row (row_sites f row cs) (joined row cell seats) (sites_long f fair row (joined row cell seats) (ready_fitting row cs ready)))
 
-  pub seated_bound : sites_cost f cs (row_sites f row cs) ≤ 2 ^ 52
+  pub seated_bound : row_cost f row (seated f seats cell row) ≤ 2 ^ 52
   seated_bound =
       let a = accepted row cs (length cs) ready in
       let bound = cost_bounded fair cs (row_sites f row cs) a.pass (row_places f row cs (length cs) fair a) in
       let few = a.few in
+      let is = seated_cost in
       omega arith
 
-  line_range : InRange cell.wanted.line cell.weight row.line
-  line_range =
+  -- what its line costs a cell that passes its checks
+  pub line_is : Passes cell → cost_of f cell.wanted.line cell.weight row.line ≡ f cell.wanted.line cell.weight row.line
+  line_is passes =
       let r = ranged cell passes in
       let known = (accepted row cs (length cs) ready).ranged in
-      omega arith
-
-  pub line_is : cost_of f cell.wanted.line cell.weight row.line ≡ f cell.wanted.line cell.weight row.line
-  line_is = cost_within f cell.wanted.line cell.weight row.line line_range
-
-  pub line_bound : f cell.wanted.line cell.weight row.line ≤ 2 ^ 42
-  line_bound = fair.bounded _ _ _ line_range
+      cost_within f cell.wanted.line cell.weight row.line (omega arith)

@@ -1,5 +1,5 @@
 -- The seats of a row are one stretch of an ordered table.
-use Rattle.std.proofs.Common.{◌≡◌, ℕ, ◌-◌, ◌≤◌, Bool, true, false, List, [], ◌∷◌, ◌++◌, map, length, take, drop, filter, sym, refl, ap, ◌∙◌, subst, append-nil, ⊎_elim, arith}
+use Rattle.std.proofs.Common.{◌≡◌, ℕ, ◌-◌, ◌≤◌, Bool, true, false, List, [], ◌∷◌, ◌++◌, map, length, take, drop, filter, sym, refl, ap, ◌∙◌, subst, append-nil, append_assoc, ⊎_elim, arith}
 use mathlib.Core.List.{map-append}
 use Rattle.std.proofs.lemmas.List.Edits.{split_between}
 use Rattle.std.proofs.lemmas.List.Elements.{filter-append}
@@ -102,8 +102,12 @@ spanned row seats r ordered sited start end =
 pub on_sited : (row : Row) (seats slice : List Seat) → slice ≡ seats_on row seats → AllByRecursion Sited seats → AllByRecursion Sited slice
 on_sited row seats slice same sited = subst (AllByRecursion Sited) (sym same) (all_kept_by (on_row row) Sited seats sited)
 
-pub on_few : (row : Row) (seats : List Seat) → length (seats_on row seats) ≤ length seats
-on_few row seats = let kept = length-filter (on_row row) seats in let few = count_by-le-length (on_row row) seats in omega arith
+pub on_few : (row : Row) (seats slice : List Seat) → slice ≡ seats_on row seats → length slice ≤ length seats
+on_few row seats slice same =
+    let long = ap length same in
+    let kept = length-filter (on_row row) seats in
+    let few = count_by-le-length (on_row row) seats in
+    omega arith
 
 -- the seats of a row are in their order
 pub on_ordered : (row : Row) (seats slice : List Seat) → slice ≡ seats_on row seats → Ordered seat_ahead seats → Ordered seat_ahead slice
@@ -137,15 +141,18 @@ put_on row k (s ∷ seats) own ordered =
 pub joined_own : (row : Row) (cell : Cell) (seats : List Seat) → Ordered seat_ahead seats → seats_on row (joined row cell seats) ≡ put_in seat_ahead (new_seat row cell) (seats_on row seats)
 joined_own row cell seats ordered = ap (seats_on row) (inserted_is seat_ahead (new_seat row cell) seats) ∙ put_on row (new_seat row cell) seats (on_own row cell) ordered
 
--- the cells of a row with a cell more, where the row's own seats are cut at the place that a search says
-pub joined_at : (row : Row) (cell : Cell) (seats slice : List Seat) (key : Seat) (at : ℕ) (before behind : List Seat) → Ordered seat_ahead seats → slice ≡ seats_on row seats → key ≡ new_seat row cell → at ≡ rank_of seat_ahead slice key → before ≡ take at slice → behind ≡ drop at slice →
-    map cell_of before ++ cell ∷ map cell_of behind ≡ cells_on row (joined row cell seats)
-joined_at row cell seats slice key at before behind ordered same new is front back =
+-- the cells of a row with a cell more, as the program gathers them: the row's own seats are cut at the place that a search says
+pub gathered_with : (row : Row) (cell : Cell) (seats : List Seat) {slice before behind : List Seat} {key : Seat} {at : ℕ} {none front more all cells : List Cell} → Ordered seat_ahead seats → slice ≡ seats_on row seats → key ≡ new_seat row cell → at ≡ rank_of seat_ahead slice key → before ≡ take at slice → behind ≡ drop at slice →
+    none ≡ [] → front ≡ none ++ map cell_of before → more ≡ front ++ cell ∷ [] → all ≡ more ++ map cell_of behind → cells ≡ all → cells ≡ cells_on row (joined row cell seats)
+gathered_with row cell seats {slice} {before} {behind} {key} {at} ordered same new is front_is back_is empty first then last whole =
     let k : Seat = new_seat row cell in
     let own : List Seat = seats_on row seats in
     let place : at ≡ rank_of seat_ahead own k = is ∙ (λ i. rank_of seat_ahead (same i) (new i)) in
     let put : seats_on row (joined row cell seats) ≡ take (rank_of seat_ahead own k) own ++ k ∷ drop (rank_of seat_ahead own k) own =
     joined_own row cell seats ordered ∙ sym (inserted_is seat_ahead k own) in
-    (λ i. map cell_of (front i) ++ cell ∷ map cell_of (back i))
+    whole ∙ last
+    ∙ ap (λ l. l ++ map cell_of behind) (then ∙ ap (λ l. l ++ cell ∷ []) (first ∙ ap (λ l. l ++ map cell_of before) empty))
+    ∙ append_assoc (map cell_of before) (cell ∷ []) (map cell_of behind)
+    ∙ (λ i. map cell_of (front_is i) ++ cell ∷ map cell_of (back_is i))
     ∙ (λ i. map cell_of (take (place i) (same i)) ++ cell ∷ map cell_of (drop (place i) (same i)))
     ∙ sym (ap (map cell_of) put ∙ map-append cell_of (take (rank_of seat_ahead own k) own) (k ∷ drop (rank_of seat_ahead own k) own))

@@ -1,13 +1,11 @@
 -- The site of a new cell once its row is set with it: the one at its place among the row's cells.
-use Rattle.std.proofs.Common.{◌≡◌, ℕ, suc, ◌+◌, ◌<◌, ◌≤◌, Bool, true, false, cond, not, eqb, List, [], ◌∷◌, get_or, length, Some, sym, refl, ap, ◌∙◌, subst, ⊎_elim, arith}
+use Rattle.std.proofs.Common.{◌≡◌, ℕ, suc, ◌+◌, Bool, true, false, cond, not, eqb, List, [], ◌∷◌, get_or, length, Some, sym, refl, ap, ◌∙◌, subst, ⊎_elim, arith}
 use Rattle.std.proofs.ByRecursion.{All-weaker, all_kept_by}
 use Rattle.std.proofs.lemmas.Bool.{cond-true, cond-false, cond_both, cases_Bool, both_ways, false_from_ne_true, not_from_false, eq-eqb}
-use Rattle.std.proofs.lemmas.List.Edits.{length-insert}
-use Rattle.std.proofs.lemmas.List.Sums.{prefix_len-le-length}
-use Rattle.std.specs.List.{insert, prefix_len, AllByRecursion}
+use Rattle.std.specs.List.{prefix_len, AllByRecursion}
 use Rattle.std.specs.Option.{option_map, unwrap_or}
 use Rattle.measure.specs.Costs.{Fair}
-use Rattle.row.specs.Sites.{row_sites}
+use Rattle.row.specs.Sites.{row_sites, sites_cost}
 use Rattle.row.specs.Stack.{Ready}
 use Rattle.row.specs.declared.Cell.{Cell}
 use Rattle.row.specs.declared.Row.{Row}
@@ -15,6 +13,7 @@ use Rattle.row.proofs.Accepted.{ready_fitting}
 use Rattle.table.specs.Order.{Ordered, rank_of}
 use Rattle.table.proofs.Inserted.{put_in, put_all, inserted_is}
 use Rattle.floor.specs.Calls.{seat_of, site_then, seated}
+use Rattle.floor.specs.Choices.{trial_on}
 use Rattle.floor.specs.Refusals.{stands}
 use Rattle.floor.specs.Seats.{on_row, seat_ahead, seats_on, cells_on, site_of, new_seat, joined, moved, resited}
 use Rattle.floor.specs.declared.Seat.{Seat}
@@ -22,6 +21,7 @@ use Rattle.floor.proofs.Joining.{fresh_each}
 use Rattle.floor.proofs.Kept.{kept_yes, kept_no}
 use Rattle.floor.proofs.Moved.{resited_nothing}
 use Rattle.floor.proofs.Orders.{same_refl}
+use Rattle.floor.proofs.Rising.{seated_cost}
 use Rattle.floor.proofs.Settling.{sites_long}
 use Rattle.floor.proofs.Stretch.{joined_own}
 
@@ -115,30 +115,13 @@ module _ {f : ℕ → ℕ → ℕ → ℕ} (fair : Fair f) (row : Row) (cell : C
       let own : AllByRecursion Own (joined row cell seats) = subst (AllByRecursion Own) (sym (inserted_is seat_ahead k seats)) (put_all seat_ahead k Own seats (λ _. same_refl row) old) in
       sym (site_of_number row cell.number sites (joined row cell seats) long own ∙ ap (λ n. get_or sites n 0) place_is)
 
-  -- and there is one
-  pub place_within : place < length sites
-  place_within =
-      let k : Seat = new_seat row cell in
-      let own : List Seat = seats_on row seats in
-      let first : place ≤ length own = prefix_len-le-length (λ s. seat_ahead s k) own in
-      let more : length (insert own place k) ≡ length own + 1 = length-insert own place k first in
-      let all = ap length (joined_own row cell seats ordered ∙ sym (inserted_is seat_ahead k own)) in
-      let each = long in
-      omega arith
-
--- a site at a place of some sites that is the new cell's
-pub record Tried (f : ℕ → ℕ → ℕ → ℕ) (row : Row) (cell : Cell) (seats : List Seat) (sites : List ℕ) (at : ℕ) : Type 0 where
-  pub within : at < length sites
-  pub is : get_or sites at 0 ≡ site_then cell.number (seated f seats cell row)
-
--- as the program comes to it
-pub tried : {f : ℕ → ℕ → ℕ → ℕ} (fair : Fair f) (row : Row) (cell : Cell) (seats : List Seat) {slice : List Seat} {key : Seat} {gathered cells : List Cell} {sites : List ℕ} {at : ℕ} → Ready row (cells_on row (joined row cell seats)) → Ordered seat_ahead seats → stands cell.number seats ≡ false →
-    gathered ≡ cells_on row (joined row cell seats) → cells ≡ gathered → sites ≡ row_sites f row cells → slice ≡ seats_on row seats → key ≡ new_seat row cell → at ≡ rank_of seat_ahead slice key → Tried f row cell seats sites at
-tried {f} fair row cell seats {slice} {key} {gathered} {cells} {sites} {at} ready ordered fresh gather same set own new finds =
-    let found : sites ≡ row_sites f row (cells_on row (joined row cell seats)) = set ∙ ap (row_sites f row) (same ∙ gather) in
-    let place : at ≡ rank_of seat_ahead (seats_on row seats) (new_seat row cell) = finds ∙ (λ i. rank_of seat_ahead (own i) (new i)) in
-    let within = place_within fair row cell seats ready ordered fresh in
-    record {
-      within = omega (arith, ap length found);
-      is = (λ i. get_or (found i) (place i) 0) ∙ site_at fair row cell seats ready ordered fresh;
-    }
+-- what a trial answers, as the program comes to it
+pub trial_is : {f : ℕ → ℕ → ℕ → ℕ} (fair : Fair f) (row : Row) (cell : Cell) (seats : List Seat) {slice : List Seat} {key : Seat} {cells : List Cell} {sites : List ℕ} {at cost : ℕ} → Ready row (cells_on row (joined row cell seats)) → Ordered seat_ahead seats → stands cell.number seats ≡ false →
+    cells ≡ cells_on row (joined row cell seats) → cost ≡ sites_cost f cells (row_sites f row cells) → sites ≡ row_sites f row cells → slice ≡ seats_on row seats → key ≡ new_seat row cell → at ≡ rank_of seat_ahead slice key →
+    record { cost = cost; site = get_or sites at 0 } ≡ trial_on f seats cell row
+trial_is {f} fair row cell seats ready ordered fresh gather costs set own new finds =
+    let cost_is = costs ∙ ap (λ cs. sites_cost f cs (row_sites f row cs)) gather ∙ sym (seated_cost fair seats row cell ready) in
+    let found = set ∙ ap (row_sites f row) gather in
+    let place = finds ∙ (λ i. rank_of seat_ahead (own i) (new i)) in
+    let site_is = (λ i. get_or (found i) (place i) 0) ∙ site_at fair row cell seats ready ordered fresh in
+    (λ i. record { cost = cost_is i; site = site_is i })

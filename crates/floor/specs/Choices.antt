@@ -1,13 +1,20 @@
--- A chosen row with its rise.
+-- A cell tried on a row, and a chosen row with its rise.
+--   trial_on          what a row costs once it is set with a cell more, and the cell's site then
 --   choice_of         a row and its rise for a cell
 --   choice_on         a row and its rise, where the row has sites for the cell
 use Rattle.std.specs.Prelude.{ℕ, cond, List, Some, None, Option}
 use Rattle.row.specs.declared.Cell.{Cell}
 use Rattle.row.specs.declared.Row.{Row}
-use Rattle.floor.specs.Calls.{rise}
+use Rattle.floor.specs.Calls.{rise, seated, site_then}
 use Rattle.floor.specs.Refusals.{has_sites}
+use Rattle.floor.specs.Seats.{row_cost}
 use Rattle.floor.specs.declared.Seat.{Seat}
 use Rattle.floor.specs.declared.choice.Choice.{Choice}
+use Rattle.floor.specs.declared.seats.trial.Trial.{Trial}
+
+-- what the sites of a row cost once it is set with a cell more, and the cell's site then
+abbrev pub trial_on : (ℕ → ℕ → ℕ → ℕ) → List Seat → Cell → Row → Trial
+trial_on price seats cell row = let after = seated price seats cell row in record { cost = row_cost price row after; site = site_then cell.number after }
 
 -- a row and its rise
 abbrev pub choice_of : (ℕ → ℕ → ℕ → ℕ) → List Seat → Cell → Row → Choice

@@ -1,16 +1,15 @@
 // The row of least rise for a cell that is offered to the rows of a floor.
 ghost use Rattle.std.specs.Prelude.{◌≡◌, ◌≤◌, true, not, is_some};
 ghost use Rattle.std.specs.Option.{option_map};
-ghost use Rattle.row.specs.Sites.{row_sites, sites_cost};
 ghost use Rattle.floor.specs.Calls.{rise, chosen};
 ghost use Rattle.floor.specs.Choices.{choice_of, choice_on};
 ghost use Rattle.floor.specs.Formed.{formed};
 ghost use Rattle.floor.specs.Refusals.{cell_refusal, has_sites};
-ghost use Rattle.floor.specs.Seats.{CanTake, cells_on, joined};
+ghost use Rattle.floor.specs.Seats.{CanTake};
 
-use crate::seats::{Seats, set_ready};
+use crate::seats::{RowSeats, Seats};
 use measure::Measure;
-use row::{Cell, MOST_CELLS, Row};
+use row::{Cell, Row};
 
 // A cell that is offered to the rows of a floor: no check refuses it but that of the rows.
 #[derive(Drop)]
@@ -29,29 +28,18 @@ pub(crate) struct Choice {
 }
 
 impl<M: Measure> Offer<'_, M> {
-    // What the sites of a row cost once it is set with the cell.
-    fn cost_on(&self, row: Row) -> u64
-        requires { CanTake row self.now.cell self.now.seats.now.items.items }
-        ensures { let cells = cells_on row (joined row self.now.cell self.now.seats.now.items.items)
-            in result ≡ sites_cost (M.price self.now.measure.now) cells (row_sites (M.price self.now.measure.now) row cells) }
-    {
-        let cells = self.seats.gather_with(row, self.cell);
-        let cells = cells.as_slice();
-        // No heap here: sites on the stack, lent to `set`. What `Seats::settle` and `Seats::site_with` share is `set_ready`: they keep sites and this the cost, so that a function for all would hand out both, by copy.
-        let mut sites = [0; MOST_CELLS];
-        let sites = &mut sites[0..cells.len()];
-        set_ready(self.measure, row, cells, sites)
-    }
-
     // The rise of a row: what its sites cost more once it is set with the cell, and what its line costs.
-    fn rise_on(&self, row: Row) -> u64
-        requires { CanTake row self.now.cell self.now.seats.now.items.items }
-        ensures { result ≡ rise (M.price self.now.measure.now) self.now.seats.now.items.items self.now.cell row }
+    fn rise_on(&self, own: &RowSeats<'_>) -> u64
+        requires table { own.now.table.now ≡ self.now.seats.now }
+        requires ready { CanTake own.now.row self.now.cell self.now.seats.now.items.items }
+        ensures { result ≡ rise (M.price self.now.measure.now) self.now.seats.now.items.items self.now.cell own.now.row }
     {
-        let after = self.cost_on(row);
-        let before = self.seats.row_cost(self.measure, row);
         let cell = self.cell;
-        let line = self.measure.cost(cell.wanted.line, cell.weight, row.line);
+        let after = own.try_cell(self.measure, cell).cost;
+        let before = own.row_cost(self.measure);
+        let line = self
+            .measure
+            .cost(cell.wanted.line, cell.weight, own.row.line);
         after.saturating_sub(before) + line
     }
 
@@ -62,12 +50,13 @@ impl<M: Measure> Offer<'_, M> {
             → CanTake row.now self.now.cell self.now.seats.now.items.items }
         ensures { result ≡ choice_on (M.price self.now.measure.now) self.now.seats.now.items.items self.now.cell row.now }
     {
-        if !self.seats.has_sites(row, &self.cell) {
+        let own = self.seats.on(*row);
+        if !own.has_sites(&self.cell) {
             return None;
         }
         Some(Choice {
             row: *row,
-            rise: self.rise_on(*row),
+            rise: self.rise_on(&own),
         })
     }
 

@@ -10,9 +10,11 @@ ghost use Rattle.table.specs.Order.{Ordered};
 mod looks;
 mod setting;
 mod stretch;
+mod trial;
 
 use crate::Seat;
-pub(crate) use setting::set_ready;
+use setting::set_ready;
+pub(crate) use stretch::RowSeats;
 use table::Ranked;
 
 // The seats of the standing cells, in the order of rows and then in wanted order. There is room for 1,024 at all times.

@@ -1,9 +1,9 @@
 // Clusters of a row's cells: how they are found, one cell after another.
-ghost use Rattle.std.specs.Prelude.{◌≡◌, ◌+◌, ◌<◌, length};
+ghost use Rattle.std.specs.Prelude.{◌≡◌, ◌+◌, ◌<◌, ◌≤◌, [], length};
 ghost use Rattle.row.specs.Stack.{InPlaces, AtBest, Follows, Bracketed, Holds};
 
+use crate::Cell;
 use crate::task::Task;
-use crate::{Cell, MOST_CELLS};
 use arrayvec::ArrayVec;
 use measure::Measure;
 
@@ -26,8 +26,8 @@ impl Cluster {
     }
 }
 
-// The clusters of a row, the last one on top.
-pub(crate) type Clusters = ArrayVec<Cluster, MOST_CELLS>;
+// The clusters of a row of at most `N` cells, the last one on top.
+pub(crate) type Clusters<const N: usize> = ArrayVec<Cluster, N>;
 
 impl<'a, M: Measure> Task<'a, M> {
     // The cell at `first` as a cluster of its own, at its best site.
@@ -70,8 +70,9 @@ impl<'a, M: Measure> Task<'a, M> {
     }
 
     // Takes the cell at `first`: it is joined to the clusters before it while it starts before their end.
-    fn add(&self, first: usize, clusters: &mut Clusters)
+    fn add<const N: usize>(&self, first: usize, clusters: &mut Clusters<N>)
         requires within { first < length self.now.cells.now }
+        requires few { length self.now.cells.now ≤ N }
         requires holds { Holds (M.price self.now.measure.now) self.now.row self.now.cells.now first clusters.old.items }
         ensures { Holds (M.price self.now.measure.now) self.now.row self.now.cells.now (first + 1) clusters.new.items }
     {
@@ -85,15 +86,15 @@ impl<'a, M: Measure> Task<'a, M> {
         clusters.push(last);
     }
 
-    // The clusters of all cells.
-    pub(crate) fn clusters(&self) -> Clusters
-        ensures { Holds (M.price self.now.measure.now) self.now.row self.now.cells.now (length self.now.cells.now) result.items }
+    // Puts the clusters of all cells into a list that is empty.
+    pub(crate) fn put_clusters<const N: usize>(&self, clusters: &mut Clusters<N>)
+        requires few { length self.now.cells.now ≤ N }
+        requires none { clusters.old.items ≡ [] }
+        ensures { Holds (M.price self.now.measure.now) self.now.row self.now.cells.now (length self.now.cells.now) clusters.new.items }
     {
-        let mut clusters = Clusters::new();
         // By place: a cluster is a run of places in the cells.
         for first in 0..self.cells.len() {
-            self.add(first, &mut clusters);
+            self.add(first, clusters);
         }
-        clusters
     }
 }

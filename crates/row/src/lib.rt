@@ -12,6 +12,9 @@ pub use setting::set;
 // How many cells a row is set with at most.
 pub const MOST_CELLS: usize = 1_024;
 
+// How many cells most rows have at most. What is done for a row on the stack is sooner done where room for so many is enough.
+pub const FEW_CELLS: usize = 32;
+
 // A site on a line.
 #[derive(Clone, Copy, PartialEq, Eq, Debug, Default)]
 pub struct Spot {

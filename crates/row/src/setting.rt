@@ -1,5 +1,5 @@
 // Setting one row: the checks, the clusters, the sites and their cost.
-ghost use Rattle.std.specs.Prelude.{◌≡◌, ◌+◌, ◌≤◌, ◌++◌, length, take, drop, IfOk};
+ghost use Rattle.std.specs.Prelude.{◌≡◌, ◌+◌, ◌≤◌, ◌++◌, [], length, take, drop, IfOk};
 ghost use Rattle.row.specs.Records.{widths};
 ghost use Rattle.row.specs.Settings.{Cheapest};
 ghost use Rattle.row.specs.Sites.{abut, row_sites, sites_cost};
@@ -7,9 +7,9 @@ ghost use Rattle.row.specs.Stack.{InPlaces, Spans, part};
 ghost use Rattle.row.specs.Task.{set_answer, set_sites};
 
 use crate::check::check;
-use crate::cluster::Cluster;
+use crate::cluster::{Cluster, Clusters};
 use crate::task::Task;
-use crate::{Cell, Refusal, Row};
+use crate::{Cell, FEW_CELLS, MOST_CELLS, Refusal, Row};
 use measure::Measure;
 
 // Writes the sites of cells that abut from `start` on.
@@ -40,17 +40,33 @@ fn lay_one(cells: &[Cell], cluster: Cluster, sites: &mut [u32])
 }
 
 impl<'a, M: Measure> Task<'a, M> {
+    // Fills `sites` with the sites of the row's cells, and answers what they cost. It keeps the clusters in a list that it is lent, empty and with room for a cluster of each cell.
+    fn set_with<const N: usize>(&self, clusters: &mut Clusters<N>, sites: &mut [u32]) -> u64
+        requires few { length self.now.cells.now ≤ N }
+        requires none { clusters.old.items ≡ [] }
+        requires each { length sites.old ≡ length self.now.cells.now }
+        ensures answer { result ≡ sites_cost (M.price self.now.measure.now) self.now.cells.now (row_sites (M.price self.now.measure.now) self.now.row self.now.cells.now) }
+        ensures after { sites.new ≡ row_sites (M.price self.now.measure.now) self.now.row self.now.cells.now }
+    {
+        self.put_clusters(clusters);
+        for cluster in clusters.as_slice() {
+            lay_one(self.cells, *cluster, sites);
+        }
+        self.cost_at(sites)
+    }
+
     // Fills `sites` with the sites of the row's cells, and answers what they cost.
     fn set(&self, sites: &mut [u32]) -> u64
         requires { length sites.old ≡ length self.now.cells.now }
         ensures answer { result ≡ sites_cost (M.price self.now.measure.now) self.now.cells.now (row_sites (M.price self.now.measure.now) self.now.row self.now.cells.now) }
         ensures after { sites.new ≡ row_sites (M.price self.now.measure.now) self.now.row self.now.cells.now }
     {
-        let clusters = self.clusters();
-        for cluster in clusters.as_slice() {
-            lay_one(self.cells, *cluster, sites);
+        // Most rows need only a short list, which is sooner made.
+        if self.cells.len() <= FEW_CELLS {
+            self.set_with(&mut Clusters::<FEW_CELLS>::new(), sites)
+        } else {
+            self.set_with(&mut Clusters::<MOST_CELLS>::new(), sites)
         }
-        self.cost_at(sites)
     }
 }
 

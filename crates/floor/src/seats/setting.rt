@@ -1,18 +1,19 @@
 // Setting a row: its cells are gathered, and its seats moved to their sites.
-ghost use Rattle.std.specs.Prelude.{◌≡◌, ◌<◌, false, length, None};
+ghost use Rattle.std.specs.Prelude.{◌≡◌, ◌+◌, ◌<◌, ◌≤◌, [], false, length, None};
 ghost use Rattle.row.specs.Records.{cell_fault};
 ghost use Rattle.row.specs.Sites.{row_sites, sites_cost};
 ghost use Rattle.row.specs.Stack.{Ready};
-ghost use Rattle.floor.specs.Calls.{seated, site_then, without};
+ghost use Rattle.floor.specs.Calls.{seated, without};
 ghost use Rattle.floor.specs.Refusals.{stands};
-ghost use Rattle.floor.specs.Seats.{CanTake, moved_all, cells_on, joined, settled};
+ghost use Rattle.floor.specs.Seats.{CanTake, moved_all, cells_on, settled};
+ghost use Rattle.floor.specs.Spans.{Spanned};
 
 use crate::Seat;
 use crate::cells::{RowCells, push_cells};
 use crate::seats::Seats;
 use measure::Measure;
-use row::{Cell, MOST_CELLS, Row, set};
-use table::place_of;
+use row::{Cell, FEW_CELLS, MOST_CELLS, Row, set};
+use std::ops::Range;
 
 // Sets a row that `set` does not refuse: fills the sites, and answers what they cost.
 // Here and below the measure comes from the floor and the row from a call, so that they are handed on side by side.
@@ -37,36 +38,27 @@ fn move_to(seats: &mut [Seat], sites: &[u32])
 }
 
 impl Seats {
-    // The cells of a row with one cell more, in wanted order.
-    pub(crate) fn gather_with(&self, row: Row, cell: Cell) -> RowCells
-        requires { length self.now.items.items < 1024 }
-        ensures { result.items ≡ cells_on row (joined row cell self.now.items.items) }
+    // Sets the row of a stretch, in room that is lent: an empty list for the cells, and sites for all of them.
+    fn settle_in<const N: usize, M: Measure>(
+        &mut self,
+        measure: &M,
+        row: Row,
+        stretch: Range<usize>,
+        cells: &mut RowCells<N>,
+        sites: &mut [u32],
+    )
+        requires ready { Ready row (cells_on row self.old.items.items) }
+        requires spanned { Spanned row self.old.items.items stretch }
+        requires few { stretch.end ≤ stretch.start + N }
+        requires none { cells.old.items ≡ [] }
+        requires room { stretch.end ≤ stretch.start + length sites.old }
+        ensures { self.new.items.items ≡ settled (M.price measure.now) row self.old.items.items }
     {
-        let seats = self.on(row);
-        let at = place_of(seats, &Seat::new(row, cell));
-        let (before, behind) = seats.split_at(at);
-        let mut cells = RowCells::new();
-        push_cells(&mut cells, before);
-        cells.push(cell);
-        push_cells(&mut cells, behind);
-        cells
-    }
-
-    // The site that a cell has once it is put on a row and the row is set.
-    pub(crate) fn site_with<M: Measure>(&self, measure: &M, row: Row, cell: Cell) -> u32
-        requires fresh { stands cell.number self.now.items.items ≡ false }
-        requires few { length self.now.items.items < 1024 }
-        requires ready { CanTake row cell self.now.items.items }
-        ensures { result ≡ site_then cell.number (seated (M.price measure.now) self.now.items.items cell row) }
-    {
-        let cells = self.gather_with(row, cell);
+        push_cells(cells, &self.items[stretch.start..stretch.end]);
         let cells = cells.as_slice();
-        // No heap here either.
-        let mut sites = [0; MOST_CELLS];
         let sites = &mut sites[0..cells.len()];
         let _ = set_ready(measure, row, cells, sites);
-        let at = place_of(self.on(row), &Seat::new(row, cell));
-        sites[at]
+        move_to(&mut self.items[stretch.start..stretch.end], sites);
     }
 
     // Sets a row: only the sites of its own seats are rewritten.
@@ -75,14 +67,24 @@ impl Seats {
         ensures { self.new.items.items ≡ settled (M.price measure.now) row self.old.items.items }
     {
         let stretch = self.stretch_of(row);
-        let mut cells = RowCells::new();
-        push_cells(&mut cells, &self.items[stretch.start..stretch.end]);
-        let cells = cells.as_slice();
-        // No heap here: the sites that `set` fills are lent to it, on the stack.
-        let mut sites = [0; MOST_CELLS];
-        let sites = &mut sites[0..cells.len()];
-        let _ = set_ready(measure, row, cells, sites);
-        move_to(&mut self.items[stretch.start..stretch.end], sites);
+        // No heap here either.
+        if stretch.end - stretch.start <= FEW_CELLS {
+            self.settle_in(
+                measure,
+                row,
+                stretch,
+                &mut RowCells::<FEW_CELLS>::new(),
+                &mut [0; FEW_CELLS],
+            );
+        } else {
+            self.settle_in(
+                measure,
+                row,
+                stretch,
+                &mut RowCells::<MOST_CELLS>::new(),
+                &mut [0; MOST_CELLS],
+            );
+        }
     }
 
     // Puts a cell on a row, in its place, and sets the row.

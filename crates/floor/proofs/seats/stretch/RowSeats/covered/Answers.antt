@@ -4,14 +4,17 @@ use Rattle.std.proofs.lemmas.Iterator.Consumers.{sum_by_from_yields_List}
 use Rattle.row.specs.Records.{widths}
 use Rattle.floor.specs.Seats.{cell_of}
 use Rattle.floor.specs.declared.Seat.{Seat}
+use Rattle.floor.proofs.Stretch.{on_sited}
 use Rattle.floor.proofs.Widths.{widths_is, widths_bound}
-use Rattle.floor.proofs.seats.Seats.covered.Goals as goal
+use Rattle.floor.proofs.seats.stretch.RowSeats.covered.Goals as goal
 
 pub returns : goal.returns
 returns c =
-    let seats = c.on-seats.result.now in
+    let self = c.args.self.now in
+    let table = self.table.now in
+    let seats = self.seats.now in
     let sum : c.sum.result ≡ widths (map cell_of seats) =
     sum_by_from_yields_List (λ (s : Seat). s.cell.width) seats c.map.result c.sum.result c.sum.ensures.ran (YieldsList-from_map _ (λ (s : Seat). s.cell.width) (YieldsList-from_slice seats cc) c.map.ensures.closure (λ x r q k. search rules)) ∙ widths_is seats in
-    let bound = widths_bound seats c.on-seats.ensures.sited in
-    let few = c.on-seats.ensures.few in
-    record { value = sum ∙ ap (λ l. widths (map cell_of l)) c.on-seats.ensures.seats; bound = omega arith }
+    let bound = widths_bound seats (on_sited self.row table.items.items seats self.own table.sited) in
+    let few = self.few in
+    record { value = sum ∙ ap (λ l. widths (map cell_of l)) self.own; bound = omega arith }

@@ -4,21 +4,26 @@ use Rattle.std.proofs.lemmas.Iterator.Consumers.{sum_by_from_yields_List, fits_b
 use Rattle.floor.specs.Seats.{cell_of, site_of}
 use Rattle.row.specs.Sites.{sites_cost}
 use Rattle.floor.proofs.Costs.{across_of, across_bound, across_sum}
-use Rattle.floor.proofs.seats.Seats.row_cost.Goals as goal
+use Rattle.floor.proofs.Stretch.{on_sited}
+use Rattle.floor.proofs.seats.stretch.RowSeats.row_cost.Goals as goal
 
 pub sum-requires-clause-fits : goal.sum-requires-clause-fits
 sum-requires-clause-fits g c =
     let f = g.M.Measure.price c.args.measure.now in
-    let seats = c.on-seats.result.now in
+    let self = c.args.self.now in
+    let table = self.table.now in
+    let seats = self.seats.now in
     let bound = across_bound (g.met.M.Measure.fair c.args.measure.now) seats in
-    let few = c.on-seats.ensures.few in
+    let few = self.few in
     fits_by_from_yields_list (across_of f) seats c.map.result _ (YieldsList-from_map _ (across_of f) (YieldsList-from_slice seats cc) c.map.ensures.closure (λ x r q k. search rules)) (omega arith)
 
 pub returns : goal.returns
 returns g c =
     let f = g.M.Measure.price c.args.measure.now in
-    let seats = c.on-seats.result.now in
+    let self = c.args.self.now in
+    let table = self.table.now in
+    let seats = self.seats.now in
     let sum = sum_by_from_yields_List (across_of f) seats c.map.result c.sum.result c.sum.ensures.ran (YieldsList-from_map _ (across_of f) (YieldsList-from_slice seats cc) c.map.ensures.closure (λ x r q k. search rules)) in
     let bound = across_bound (g.met.M.Measure.fair c.args.measure.now) seats in
-    let few = c.on-seats.ensures.few in
-    record { value = sum ∙ across_sum f seats c.on-seats.ensures.sited ∙ ap (λ l. sites_cost f (map cell_of l) (map site_of l)) c.on-seats.ensures.seats; bound = omega arith }
+    let few = self.few in
+    record { value = sum ∙ across_sum f seats (on_sited self.row table.items.items seats self.own table.sited) ∙ ap (λ l. sites_cost f (map cell_of l) (map site_of l)) self.own; bound = omega arith }

@@ -1,0 +1,10 @@
+use Rattle.std.proofs.Common.{arith}
+use Rattle.floor.proofs.Stretch.{on_few}
+use Rattle.floor.proofs.seats.stretch.RowSeats.try_cell.Goals as goal
+
+pub try_in-requires-else-self-lt-FEW_CELLS : goal.try_in-requires-else-self-lt-FEW_CELLS
+try_in-requires-else-self-lt-FEW_CELLS g c =
+    let self = c.args.self.now in
+    let asked = c.requires in
+    let fewer = on_few self.row self.table.now.items.items self.seats.now self.own in
+    (omega arith, (asked.fresh, (asked.ready, (omega (arith, asked.few), (c.new-else-self-lt-FEW_CELLS.ensures, omega (arith, asked.few))))))

@@ -1,0 +1,76 @@
+// Trying a cell on a row: the row is set with it, beside the table, and nothing is kept.
+ghost use Rattle.std.specs.Prelude.{◌≡◌, ◌<◌, ◌≤◌, [], false, length};
+ghost use Rattle.floor.specs.Choices.{trial_on};
+ghost use Rattle.floor.specs.Refusals.{stands};
+ghost use Rattle.floor.specs.Seats.{CanTake};
+
+use crate::Seat;
+use crate::cells::{RowCells, push_cells};
+use crate::seats::set_ready;
+use crate::seats::stretch::RowSeats;
+use measure::Measure;
+use row::{Cell, FEW_CELLS, MOST_CELLS};
+use table::place_of;
+
+// What a row set with a cell more comes to: what its sites cost then, and the cell's site.
+#[derive(Clone, Copy)]
+pub(crate) struct Trial {
+    pub(crate) cost: u64,
+    pub(crate) site: u32,
+}
+
+impl RowSeats<'_> {
+    // The trial of a cell on the row, in room that is lent: an empty list for the cells, and sites for all of them.
+    fn try_in<const N: usize, M: Measure>(
+        &self,
+        measure: &M,
+        cell: Cell,
+        cells: &mut RowCells<N>,
+        sites: &mut [u32],
+    ) -> Trial
+        requires fresh { stands cell.number self.now.table.now.items.items ≡ false }
+        requires ready { CanTake self.now.row cell self.now.table.now.items.items }
+        requires few { length self.now.seats.now < N }
+        requires none { cells.old.items ≡ [] }
+        requires room { length self.now.seats.now < length sites.old }
+        ensures { result ≡ trial_on (M.price measure.now) self.now.table.now.items.items cell self.now.row }
+    {
+        let at = place_of(self.seats, &Seat::new(self.row, cell));
+        let (before, behind) = self.seats.split_at(at);
+        push_cells(cells, before);
+        cells.push(cell);
+        push_cells(cells, behind);
+        let cells = cells.as_slice();
+        let sites = &mut sites[0..cells.len()];
+        let cost = set_ready(measure, self.row, cells, sites);
+        Trial {
+            cost,
+            site: sites[at],
+        }
+    }
+
+    // The trial of a cell on the row.
+    pub(crate) fn try_cell<M: Measure>(&self, measure: &M, cell: Cell) -> Trial
+        requires fresh { stands cell.number self.now.table.now.items.items ≡ false }
+        requires few { length self.now.table.now.items.items < 1024 }
+        requires ready { CanTake self.now.row cell self.now.table.now.items.items }
+        ensures { result ≡ trial_on (M.price measure.now) self.now.table.now.items.items cell self.now.row }
+    {
+        // No heap here: the room is on the stack. Most rows need only a little, which is sooner made.
+        if self.seats.len() < FEW_CELLS {
+            self.try_in(
+                measure,
+                cell,
+                &mut RowCells::<FEW_CELLS>::new(),
+                &mut [0; FEW_CELLS],
+            )
+        } else {
+            self.try_in(
+                measure,
+                cell,
+                &mut RowCells::<MOST_CELLS>::new(),
+                &mut [0; MOST_CELLS],
+            )
+        }
+    }
+}
