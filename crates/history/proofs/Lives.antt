@@ -23,7 +23,7 @@ use Rattle.floor.proofs.Rowed.{row_added}
 use Rattle.history.proofs.Grants.{answered_cost}
 use Rattle.history.proofs.Held.{Obeys}
 use Rattle.history.proofs.Steps.{call_is, obeys_empty, obeys_step, place_formed, place_few}
-use Rattle.history.specs.Events.{event_of, rows_then, seats_then}
+use Rattle.history.specs.Events.{Tables, after, event_of, made, rows_then, seats_then, tables_then}
 use Rattle.history.specs.Histories.{call_of, standing_in}
 use Rattle.history.specs.Lives.{Lawful}
 use Rattle.history.specs.Settings.{site_in, cost}
@@ -81,24 +81,37 @@ module _ (f : ℕ → ℕ → ℕ → ℕ) (fair : Fair f) (history : List Event
     obeys = obeys_step f fair history rows seats lives.well lives.few lives.obeys call (then_formed call) (then_few call);
   }
 
--- The events are those of the calls, and the floor lives by them.
+-- the tables of a floor
+abbrev pub tables_of : {M : Type 0} → Floor M → Tables
+tables_of floor = record { rows = rows_of floor; seats = seats_of floor }
+
+-- the tables after one call more
+after_more : (f : ℕ → ℕ → ℕ → ℕ) (t : Tables) (calls : List Call) (call : Call) → after f t (calls ++ call ∷ []) ≡ tables_then f (after f t calls) call
+after_more f t [] call = refl
+after_more f t (first ∷ calls) call = after_more f (tables_then f t first) calls call
+
+-- The events are those of the calls, the floor lives by them, and its tables are those that the calls make.
 pub record Lived {M : Type 0} (f : ℕ → ℕ → ℕ → ℕ) (calls : List Call) (floor : Floor M) (events : List Event) : Type 0 where
-  pub made : map call_of events ≡ calls
+  pub made_of : map call_of events ≡ calls
   pub lives : Lives f (reverse events) (rows_of floor) (seats_of floor)
+  pub tables : tables_of floor ≡ made f calls
 
 -- such a floor is lawful
 pub lived_lawful : {M : Type 0} (f : ℕ → ℕ → ℕ → ℕ) (calls : List Call) (life : Life M) → Lived f calls life.floor (vec_items life.events) → Lawful f calls life
 lived_lawful f calls life lived = record {
-  made = lived.made;
+  made_of = lived.made_of;
   law = lived.lives.obeys.law;
   costs = lives_cost f (reverse (vec_items life.events)) (rows_of life.floor) (seats_of life.floor) lived.lives;
+  rows = ap (λ (t : Tables). t.rows) lived.tables;
+  seats = ap (λ (t : Tables). t.seats) lived.tables;
 }
 
 module _ {M : Type 0} (f : ℕ → ℕ → ℕ → ℕ) (fair : Fair f) where
   -- no call is made yet
   pub lived_empty : (floor : Floor M) (events : List Event) → rows_of floor ≡ [] → seats_of floor ≡ [] → events ≡ [] → Lived f [] floor events
   lived_empty floor events rows seats none = record {
-    made = ap (map call_of) none;
+    made_of = ap (map call_of) none;
+    tables = λ i. record { rows = rows i; seats = seats i };
     lives = subst (λ (t : List Event × List Row × List Seat). Lives f (reverse t.0) t.1 t.2) (sym (λ i. (none i, rows i, seats i))) (lives_empty f fair);
   }
 
@@ -111,7 +124,8 @@ module _ {M : Type 0} (f : ℕ → ℕ → ℕ → ℕ) (fair : Fair f) where
       let same : now ≡ events ++ next ∷ [] = pushed ∙ ap (λ e. events ++ e ∷ []) is in
       let latest : reverse now ≡ next ∷ reverse events = ap reverse same ∙ reverse-append events (next ∷ []) in
       record {
-        made = ap (map call_of) same ∙ map-append call_of events (next ∷ []) ∙ (λ i. lived.made i ++ call_is f (rows_of floor) (seats_of floor) call i ∷ []);
+        tables = (λ i. record { rows = rows i; seats = seats i }) ∙ ap (λ t. tables_then f t call) lived.tables ∙ sym (after_more f (record { rows = []; seats = [] }) calls call);
+        made_of = ap (map call_of) same ∙ map-append call_of events (next ∷ []) ∙ (λ i. lived.made_of i ++ call_is f (rows_of floor) (seats_of floor) call i ∷ []);
         lives =
             subst (λ (t : List Event × List Row × List Seat). Lives f t.0 t.1 t.2) (sym (λ i. (latest i, rows i, seats i)))
             (lives_step f fair (reverse events) (rows_of floor) (seats_of floor) lived.lives call);

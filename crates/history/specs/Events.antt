@@ -1,7 +1,8 @@
 -- The calls of a floor as values: what comes of each, as a function of the floor's rows and seats.
 --   event_of                  a call with its answer
 --   rows_then, seats_then     the rows and the seats after it
-use Rattle.std.specs.Prelude.{ℕ, List}
+--   made                      the rows and the seats that calls make of those of an empty floor
+use Rattle.std.specs.Prelude.{ℕ, List, [], ◌∷◌}
 use Rattle.row.specs.Task.{granted}
 use Rattle.row.specs.declared.Row.{Row}
 use Rattle.floor.specs.Calls.{rows_after, place_answer, where_answer, seats_after_place, seats_after_withdraw}
@@ -33,3 +34,22 @@ module _ (price : ℕ → ℕ → ℕ → ℕ) (rows : List Row) (seats : List S
   seats_then (Place cell) = seats_after_place price rows seats cell
   seats_then (Try cell) = seats
   seats_then (Withdraw number) = seats_after_withdraw price seats number
+
+-- the rows and the seats of a floor
+pub record Tables : Type 0 where
+  pub rows : List Row
+  pub seats : List Seat
+
+module _ (price : ℕ → ℕ → ℕ → ℕ) where
+  -- the tables after one call
+  abbrev pub tables_then : Tables → Call → Tables
+  tables_then t call = record { rows = rows_then t.rows call; seats = seats_then price t.rows t.seats call }
+
+  -- the tables after calls, from the first on
+  abbrev pub after : Tables → List Call → Tables
+  after t [] = t
+  after t (call ∷ calls) = after (tables_then t call) calls
+
+  -- the tables that calls make of those of an empty floor
+  abbrev pub made : List Call → Tables
+  made calls = after (record { rows = []; seats = [] }) calls

@@ -16,8 +16,7 @@ use Rattle.row.specs.declared.Spot.{Spot}
 use Rattle.floor.specs.Calls.{where_answer}
 use Rattle.floor.specs.Seats.{floor_cost}
 use Rattle.floor.specs.declared.Placing.{Placing}
-use Rattle.floor.specs.declared.Seat.{Seat}
-use Rattle.history.specs.Events.{event_of, rows_then, seats_then}
+use Rattle.history.specs.Events.{Tables, event_of, made}
 use Rattle.history.specs.declared.call.Call.{Call}
 use Rattle.history.specs.declared.call.Call.TheVariants.{AddRow, Place, Withdraw}
 use Rattle.history.specs.declared.call.Event.TheVariants.{Placed}
@@ -34,20 +33,6 @@ pub data Check : Type 0 where
   refuses : MeasureName → Row → List Cell → ℕ → Check
   leaves : MeasureName → List Call → List Stand → ℕ → Check
   places : MeasureName → List Call → Cell → Placing → Check
-
--- the rows and the seats of a floor
-pub record Tables : Type 0 where
-  pub rows : List Row
-  pub seats : List Seat
-
--- the tables after calls, from the first on
-abbrev pub after : (ℕ → ℕ → ℕ → ℕ) → Tables → List Call → Tables
-after price t [] = t
-after price t (call ∷ calls) = after price (record { rows = rows_then t.rows call; seats = seats_then price t.rows t.seats call }) calls
-
--- the tables that calls make of those of an empty floor
-abbrev pub made : (ℕ → ℕ → ℕ → ℕ) → List Call → Tables
-made price calls = after price (record { rows = []; seats = [] }) calls
 
 -- a buffer for the sites of cells
 abbrev pub buffer : List Cell → List ℕ
