@@ -1,4 +1,4 @@
-// Cells and rows, wanted order, and `set`, which sets one row of cells.
+// Cells and rows, wanted order, and `set`, which sets one row of cells; a `Task` is a row that needs no checks.
 #![tactic(auto)]
 
 mod check;
@@ -8,6 +8,7 @@ mod setting;
 mod task;
 
 pub use setting::set;
+pub use task::Task;
 
 // How many cells a row is set with at most.
 pub const MOST_CELLS: usize = 1_024;

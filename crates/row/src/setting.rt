@@ -56,7 +56,7 @@ impl<'a, M: Measure> Task<'a, M> {
     }
 
     // Fills `sites` with the sites of the row's cells, and answers what they cost.
-    fn set(&self, sites: &mut [u32]) -> u64
+    fn fill(&self, sites: &mut [u32]) -> u64
         requires { length sites.old ≡ length self.now.cells.now }
         ensures answer { result ≡ sites_cost (M.price self.now.measure.now) self.now.cells.now (row_sites (M.price self.now.measure.now) self.now.row self.now.cells.now) }
         ensures after { sites.new ≡ row_sites (M.price self.now.measure.now) self.now.row self.now.cells.now }
@@ -67,6 +67,19 @@ impl<'a, M: Measure> Task<'a, M> {
         } else {
             self.set_with(&mut Clusters::<MOST_CELLS>::new(), sites)
         }
+    }
+
+    // Sets the row, as `set` does, with no check but that there is a site for each cell.
+    pub fn set(&self, sites: &mut [u32]) -> Result<u64, Refusal>
+        ensures answer { result ≡ set_answer (M.price self.now.measure.now) self.now.row self.now.cells.now sites.old }
+        ensures after { sites.new ≡ set_sites (M.price self.now.measure.now) self.now.row self.now.cells.now sites.old }
+        ensures cheapest { IfOk result (λ cost. Cheapest (M.price self.now.measure.now) self.now.row self.now.cells.now sites.new
+            × (cost ≡ sites_cost (M.price self.now.measure.now) self.now.cells.now sites.new)) }
+    {
+        if sites.len() != self.cells.len() {
+            return Err(Refusal::Size);
+        }
+        Ok(self.fill(sites))
     }
 }
 
@@ -89,5 +102,5 @@ pub fn set<M: Measure>(
         row,
         cells,
     };
-    Ok(task.set(sites))
+    task.set(sites)
 }

@@ -10,11 +10,12 @@ use crate::{Cell, Row};
 use measure::Measure;
 
 // A row and its cells, which are not refused, and the measure of what their moves cost.
+// Whoever makes one shows that no check of `set` refuses the row and its cells, so that none of them is done again.
 #[derive(Drop)]
-pub(crate) struct Task<'a, M: Measure> {
-    pub(crate) measure: &'a M,
-    pub(crate) row: Row,
-    pub(crate) cells: &'a [Cell],
+pub struct Task<'a, M: Measure> {
+    pub measure: &'a M,
+    pub row: Row,
+    pub cells: &'a [Cell],
     ghost ready: { Ready row cells.now } by { Prim.hlevel props },
 }
 

@@ -12,10 +12,10 @@ use crate::Seat;
 use crate::cells::{RowCells, push_cells};
 use crate::seats::Seats;
 use measure::Measure;
-use row::{Cell, FEW_CELLS, MOST_CELLS, Row, set};
+use row::{Cell, FEW_CELLS, MOST_CELLS, Row, Task};
 use std::ops::Range;
 
-// Sets a row that `set` does not refuse: fills the sites, and answers what they cost.
+// Sets a row that needs no checks: fills the sites, and answers what they cost.
 // Here and below the measure comes from the floor and the row from a call, so that they are handed on side by side.
 pub(crate) fn set_ready<M: Measure>(measure: &M, row: Row, cells: &[Cell], sites: &mut [u32]) -> u64
     requires ready { Ready row cells.now }
@@ -23,7 +23,12 @@ pub(crate) fn set_ready<M: Measure>(measure: &M, row: Row, cells: &[Cell], sites
     ensures answer { result ≡ sites_cost (M.price measure.now) cells.now (row_sites (M.price measure.now) row cells.now) }
     ensures after { sites.new ≡ row_sites (M.price measure.now) row cells.now }
 {
-    set(measure, row, cells, sites).unwrap()
+    let task = Task {
+        measure,
+        row,
+        cells,
+    };
+    task.set(sites).unwrap()
 }
 
 // Moves seats to sites, one after another; of each seat only the site is rewritten.
