@@ -3,7 +3,7 @@
 --   refused         the refusal that an event's call was answered with, if it was refused
 --   Standing        a cell that stands, and its row
 --   rows_in         the rows that stand: a row stands once it is added
---   standing_in     the cells that stand: a cell stands from the placing that granted it until a withdrawal grants its number
+--   standing_in     the cells that stand: a cell stands from the placing that granted it until a withdrawal of its number is granted
 --   decide          what the checks decide on a call: the first that fails, if one does
 use Rattle.std.specs.Prelude.{Bool, not, cond, ◌&&◌, List, [], ◌∷◌, filter, Ok, Err, Option, ◌==◌, nat_eq, nat_le, nat_lt}
 use Rattle.row.specs.Checked.{checked}

@@ -55,7 +55,7 @@ Answers price rows earlier before (event.Tried cell answer) after =
     × IfOk answer (λ placing. (instead : Where) × Granted price rows earlier before cell placing instead × Holds price (with_placed rows earlier cell placing) instead)
 Answers price rows earlier before (event.Withdrawn number answer) after = answer ≡ before number
 
--- An event after a history, with the answers of where_is before and after it: its call is granted, or refused with the number of the first check that fails, as the checks decide
+-- An event after a history, with the answers of where_is before and after it: its call is granted, or refused by the first check that fails, as the checks decide
 -- from what stands before it; its answer is as it must be; and what where_is answers after it is as it must be.
 pub record Step (price : ℕ → ℕ → ℕ → ℕ) (earlier : List Event) (before : Where) (e : Event) (after : Where) : Type 0 where
   pub decided : refused e ≡ decide (rows_in earlier) (standing_in earlier) (call_of e)

@@ -10,9 +10,10 @@ mod front;
 
 use front::Front;
 
-// The least length of a line buffer, and the greatest of a name.
+// The least length of a line buffer.
 pub const LEAST_BUFFER: usize = 320;
 
+// The greatest length of a name.
 pub const LONGEST_NAME: usize = 255;
 
 // A line. The answer to a record begins with the record's index.

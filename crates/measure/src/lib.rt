@@ -10,9 +10,10 @@ mod name;
 
 pub use name::{MeasureName, UnknownMeasure};
 
-// The greatest place and wanted place, and the greatest weight.
+// The greatest place, and the greatest wanted place.
 pub const LAST_PLACE: u32 = 65_535;
 
+// The greatest weight.
 pub const MOST_WEIGHT: u32 = 1_000;
 
 // Whether a wanted place, a weight and a place are within the ranges.

@@ -17,7 +17,8 @@ fn cut_at_mark<'a>(bytes: &'a [u8], marks: &[u8]) -> (&'a [u8], &'a [u8])
 }
 
 // The parts of the bytes that are left, each of which ends with one of the marks.
-// Neither `split` nor `split_inclusive`, which are no plainer: both need a closure, whose type a field cannot name, so each user of lines or words would carry a type parameter; and behind a last mark `split` gives a line one part more, where `split_inclusive` leaves the marks in the parts.
+// Neither `split` nor `split_inclusive`: both take a closure, whose type a field cannot name, so that each user of lines or words would carry a type parameter.
+// And behind a last mark `split` gives one part more, while `split_inclusive` leaves the marks in the parts.
 #[derive(Drop)]
 pub(crate) struct Parts<'a> {
     rest: &'a [u8],

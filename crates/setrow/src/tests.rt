@@ -1,4 +1,4 @@
-// Inputs that cannot be read, each reason once, with what is said of them.
+// Inputs that cannot be read, each reason at least once but want of memory, with what is said of them.
 use crate::read::read;
 use std::alloc::Global;
 use std::test::Fail;
