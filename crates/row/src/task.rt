@@ -1,9 +1,9 @@
-// The task of setting a row: what its cells' moves cost, where they rise, and where they stand best together.
+// The task of setting a row: how the cost of its cells rises, and where they stand best together.
 ghost use Rattle.std.specs.Prelude.{◌≡◌, ◌+◌, ◌-◌, ◌<◌, ◌≤◌, length};
-ghost use Rattle.std.specs.List.{AllByRecursion, between};
+ghost use Rattle.std.specs.List.{between};
 ghost use Rattle.std.proofs.Props.{props};
 ghost use Rattle.row.specs.Records.{widths};
-ghost use Rattle.row.specs.Sites.{cluster_rise, climbs, least, sites_cost};
+ghost use Rattle.row.specs.Sites.{cluster_rise, climbs, least};
 ghost use Rattle.row.specs.Stack.{Ready};
 
 use crate::{Cell, Row};
@@ -106,17 +106,5 @@ impl<'a, M: Measure> Task<'a, M> {
             }
         }
         from
-    }
-
-    // The cost of the cells at sites.
-    pub(crate) fn cost_at(&self, sites: &[u32]) -> u64
-        requires { AllByRecursion (λ x. x ≤ 65535) sites.now }
-        ensures { result ≡ sites_cost (M.price self.now.measure.now) self.now.cells.now sites.now }
-    {
-        self.cells
-            .iter()
-            .zip(sites)
-            .map(|(cell, site)| self.measure.cost(cell.wanted.site, cell.weight, *site))
-            .sum()
     }
 }
