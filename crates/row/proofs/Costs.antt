@@ -1,14 +1,14 @@
--- What a measure answers for cells at sites: where all are within the ranges, the price.
-use Rattle.std.proofs.Common.{◌≡◌, ℕ, ◌*◌, ◌^◌, ◌<◌, ◌≤◌, true, ◌&&◌, leb, List, [], ◌∷◌, length, refl, arith}
+-- What cells cost at sites.
+use Rattle.std.proofs.Common.{◌≡◌, ℕ, ◌+◌, ◌*◌, ◌^◌, ◌<◌, ◌≤◌, true, ◌&&◌, leb, List, [], ◌∷◌, ◌++◌, length, get_or, drop, arith}
 use Rattle.std.proofs.lemmas.Bool.{and_from, le-leb, cond-true}
-use Rattle.std.proofs.lemmas.List.Sums.{sum_by-cons}
-use Rattle.std.specs.List.{AllByRecursion, sum_by, zip}
+use Rattle.std.proofs.lemmas.List.{at_drop_more}
+use Rattle.std.specs.List.{AllByRecursion}
 use Rattle.measure.specs.Costs.{Fair, InRange, in_range, cost_of}
-use Rattle.row.specs.Sites.{sites_cost}
-use Rattle.row.specs.Stack.{Passes, Ready}
+use Rattle.row.specs.Records.{widths}
+use Rattle.row.specs.Sites.{abut, sites_cost}
+use Rattle.row.specs.Stack.{Passes}
 use Rattle.row.specs.declared.Cell.{Cell}
-use Rattle.row.specs.declared.Row.{Row}
-use Rattle.row.proofs.Accepted.{ready_known}
+use Rattle.row.proofs.Defaults.{no_cell}
 use Rattle.row.proofs.Rises.{in_ranges}
 
 -- the test of the ranges, where they hold
@@ -22,31 +22,21 @@ in_range_true w e p h =
 pub cost_within : (f : ℕ → ℕ → ℕ → ℕ) (w e p : ℕ) → InRange w e p → cost_of f w e p ≡ f w e p
 cost_within f w e p h = cond-true (in_range w e p) (f w e p) 0 (in_range_true w e p h)
 
--- what it answers for a cell and a site
-abbrev pub cost_at : (ℕ → ℕ → ℕ → ℕ) → Cell × ℕ → ℕ
-cost_at f p = cost_of f p.0.wanted.site p.0.weight p.1
+-- some cells and then others cost what they cost together
+pub sites_cost-append : (f : ℕ → ℕ → ℕ → ℕ) (cs ds : List Cell) (xs ys : List ℕ) → length xs ≡ length cs → sites_cost f (cs ++ ds) (xs ++ ys) ≡ sites_cost f cs xs + sites_cost f ds ys
+sites_cost-append f [] ds [] ys each = omega arith
+sites_cost-append f [] ds (x ∷ xs) ys each = absurd (omega arith)
+sites_cost-append f (c ∷ cs) ds [] ys each = absurd (omega arith)
+sites_cost-append f (c ∷ cs) ds (x ∷ xs) ys each = let rest = sites_cost-append f cs ds xs ys (omega arith) in omega arith
 
--- over all cells that is their cost, and each adds at most 2 ^ 42
-costs_are : {f : ℕ → ℕ → ℕ → ℕ} → Fair f → (cells : List Cell) (sites : List ℕ) → AllByRecursion Passes cells → AllByRecursion (λ x. x ≤ 65535) sites →
-    (sum_by (cost_at f) (zip cells sites) ≡ sites_cost f cells sites) × (sites_cost f cells sites ≤ 2 ^ 42 * length cells)
-costs_are fair [] sites pass low = (refl, omega arith)
-costs_are fair (c ∷ cs) [] pass low = (refl, omega arith)
-costs_are {f} fair (c ∷ cs) (x ∷ xs) pass low =
-    let at : InRange c.wanted.site c.weight x = in_ranges c x pass.0 low.0 in
-    let own = cost_within f _ _ _ at in
-    let small = fair.bounded _ _ _ at in
-    let more = sum_by-cons (cost_at f) (c, x) (zip cs xs) in
-    let rest = costs_are fair cs xs pass.1 low.1 in
-    (omega arith, omega arith)
+-- each of some abutting cells costs at most 2^42
+pub abut_bounded : {f : ℕ → ℕ → ℕ → ℕ} → Fair f → (cs : List Cell) (x : ℕ) → AllByRecursion Passes cs → x + widths cs ≤ 65535 → sites_cost f cs (abut cs x) ≤ 2 ^ 42 * length cs
+abut_bounded fair [] x pass inside = omega arith
+abut_bounded fair (c ∷ cs) x pass inside =
+    let own = fair.bounded _ _ _ (in_ranges c x pass.0 (omega arith)) in
+    let rest = abut_bounded fair cs (x + c.width) pass.1 (omega arith) in
+    omega arith
 
--- so for the cells of a row that is not refused, which are few enough that the sum fits
-pub record Costed (f : ℕ → ℕ → ℕ → ℕ) (cells : List Cell) (sites : List ℕ) : Type 0 where
-  pub is : sum_by (cost_at f) (zip cells sites) ≡ sites_cost f cells sites
-  pub fits : sum_by (cost_at f) (zip cells sites) < 2 ^ 64
-
-pub costed : {f : ℕ → ℕ → ℕ → ℕ} → Fair f → (row : Row) (cells : List Cell) (sites : List ℕ) → Ready row cells → AllByRecursion (λ x. x ≤ 65535) sites → Costed f cells sites
-costed fair row cells sites ready low =
-    let known = ready_known row cells ready in
-    let few = known.few in
-    let costs = costs_are fair cells sites known.pass low in
-    record { is = costs.0; fits = omega arith }
+-- what the abutting cells that are left cost, one cell on
+pub abut_cost_more : (f : ℕ → ℕ → ℕ → ℕ) (cells : List Cell) (i x : ℕ) → i < length cells → sites_cost f (drop i cells) (abut (drop i cells) x) ≡ f (get_or cells i no_cell).wanted.site (get_or cells i no_cell).weight x + sites_cost f (drop (i + 1) cells) (abut (drop (i + 1) cells) (x + (get_or cells i no_cell).width))
+abut_cost_more f cells i x within = at_drop_more (λ cs. sites_cost f cs (abut cs x)) cells i no_cell within

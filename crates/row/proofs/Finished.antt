@@ -1,19 +1,23 @@
 -- What is known of a row once its clusters are found and its sites are written.
-use Rattle.std.proofs.Common.{◌≡◌, ℕ, ◌≤◌, List, [], ◌∷◌, map, reverse, length, sym, ap, ◌∙◌, subst, arith}
+use Rattle.std.proofs.Common.{◌≡◌, ℕ, ◌+◌, ◌*◌, ◌^◌, ◌<◌, ◌≤◌, List, [], ◌∷◌, map, reverse, length, get_or, sym, ap, ◌∙◌, subst, arith}
 use mathlib.Core.List.{reverse-cons}
-use Rattle.std.proofs.ByRecursion.{All-push}
+use Rattle.std.proofs.ByRecursion.{All-push, All-get_or}
+use Rattle.std.proofs.lemmas.List.Edits.{length-between}
 use Rattle.std.proofs.lemmas.List.{take_all, reverse-reverse}
 use Rattle.std.specs.List.{between, AllByRecursion}
 use Rattle.measure.specs.Costs.{Fair}
 use Rattle.row.specs.Clusters.{laid}
 use Rattle.row.specs.Settings.{placed, Within}
-use Rattle.row.specs.Sites.{abut, row_clusters, row_sites}
-use Rattle.row.specs.Stack.{Ready, InPlaces, cluster_of, stack_of, Tiled, Holds}
+use Rattle.row.specs.Sites.{abut, row_clusters, row_sites, sites_cost}
+use Rattle.row.specs.Stack.{Ready, InPlaces, part, cluster_of, stack_of, Tiled, Holds}
 use Rattle.row.specs.declared.Cell.{Cell}
 use Rattle.row.specs.declared.Row.{Row}
 use Rattle.row.specs.declared.cluster.Cluster.{Cluster as Run}
 use Rattle.row.proofs.Accepted.{Accepted, ready_known}
-use Rattle.row.proofs.Laying.{Laid, lay_all}
+use Rattle.row.proofs.Costs.{abut_bounded}
+use Rattle.row.proofs.Defaults.{no_run}
+use Rattle.row.proofs.Laying.{Laid, lay_all, next_spans}
+use Rattle.row.proofs.Parts.{part_known}
 use Rattle.row.proofs.Instance.{lane, span_is}
 use Rattle.row.proofs.Stacked.{prefix_sound}
 use Rattle.row.proofs.Subject.{row_cheapest}
@@ -60,6 +64,20 @@ module _ {f : ℕ → ℕ → ℕ → ℕ} {row : Row} {cells : List Cell} {runs
       let sound : Sound (lane f row) (stack_of cells items) = subst (Sound (lane f row)) (sym h.clusters) (prefix_sound fair a (length cells)) in
       let back : AllByRecursion InPlaces (reverse items) = sound_places f row cells (length cells) fair a (reverse items) (length cells) h.tiled sound in
       subst (AllByRecursion InPlaces) (reverse-reverse items ∙ sym same) (all_reverse InPlaces (reverse items) back)
+
+  -- what the cells of the next run cost is at most 2^42 for each of them
+  pub next_bounded : {i past : ℕ} {sites : List ℕ} → i < length runs → length sites ≡ length cells → Laid cells runs i past sites → sites_cost f (part cells (get_or runs i no_run)) (abut (part cells (get_or runs i no_run)) (get_or runs i no_run).site) + 2 ^ 42 * past ≤ 2 ^ 42 * (get_or runs i no_run).past
+  next_bounded {i} below each l =
+      let k : Run = get_or runs i no_run in
+      let next = next_spans cells runs i _ _ all_tiled below each l in
+      let wide = next.0.wide in
+      let starts = next.0.starts in
+      let at = next.1 in
+      let inside : InPlaces k = All-get_or InPlaces runs i no_run below in_places in
+      let known = part_known a k.first k.past in
+      let long = length-between cells k.first k.past next.2 in
+      let bound = abut_bounded fair (part cells k) k.site known.pass (omega arith) in
+      omega arith
 
   -- once the sites of all of them are written, they are the row's
   pub laid_are : {i past : ℕ} {sites : List ℕ} → length runs ≤ i → length sites ≡ length cells → Laid cells runs i past sites → sites ≡ row_sites f row cells

@@ -12,34 +12,42 @@ use crate::task::Task;
 use crate::{Cell, FEW_CELLS, MOST_CELLS, Refusal, Row};
 use measure::Measure;
 
-// Writes the sites of cells that abut from `start` on.
-fn abut_from(cells: &[Cell], start: u32, sites: &mut [u32])
-    requires each { length sites.old ≡ length cells.now }
-    requires inside { start + widths cells.now ≤ 65535 }
-    ensures { sites.new ≡ abut cells.now start }
-{
-    let mut site = start;
-    // By place: of what a `zip` with `iter_mut` has written an invariant has no name, so the proof does not close.
-    for (i, cell) in cells.iter().enumerate() {
-        sites[i] = site;
-        site += cell.width;
-    }
-}
-
-// Writes the sites of the cells of one cluster, and leaves the others.
-fn lay_one(cells: &[Cell], cluster: Cluster, sites: &mut [u32])
-    requires within { cluster.past ≤ length cells.now }
-    requires room { cluster.past ≤ length sites.old }
-    requires spans { Spans cells.now cluster.past cluster }
-    requires inside { InPlaces cluster }
-    ensures { sites.new ≡ take cluster.first sites.old ++ (abut (part cells.now cluster) cluster.site ++ drop cluster.past sites.old) }
-{
-    let first = cluster.first;
-    let past = cluster.past;
-    abut_from(&cells[first..past], cluster.site, &mut sites[first..past]);
-}
-
 impl<'a, M: Measure> Task<'a, M> {
+    // Writes the sites of the cells where they abut from `start` on, and answers what they cost there.
+    fn abut_from(&self, start: u32, sites: &mut [u32]) -> u64
+        requires each { length sites.old ≡ length self.now.cells.now }
+        requires inside { start + widths self.now.cells.now ≤ 65535 }
+        ensures answer { result ≡ sites_cost (M.price self.now.measure.now) self.now.cells.now (abut self.now.cells.now start) }
+        ensures after { sites.new ≡ abut self.now.cells.now start }
+    {
+        let mut cost: u64 = 0;
+        let mut site = start;
+        // By place: of what a `zip` with `iter_mut` has written an invariant has no name, so the proof does not close.
+        for (i, cell) in self.cells.iter().enumerate() {
+            sites[i] = site;
+            cost += self
+                .measure
+                .price_at(cell.wanted.site as u16, cell.weight as u16, site as u16);
+            site += cell.width;
+        }
+        cost
+    }
+
+    // Writes the sites of the cells of one cluster, leaves the others, and answers what these cells cost.
+    fn lay_one(&self, cluster: Cluster, sites: &mut [u32]) -> u64
+        requires within { cluster.past ≤ length self.now.cells.now }
+        requires room { cluster.past ≤ length sites.old }
+        requires spans { Spans self.now.cells.now cluster.past cluster }
+        requires inside { InPlaces cluster }
+        ensures answer { result ≡ sites_cost (M.price self.now.measure.now) (part self.now.cells.now cluster) (abut (part self.now.cells.now cluster) cluster.site) }
+        ensures after { sites.new ≡ take cluster.first sites.old ++ (abut (part self.now.cells.now cluster) cluster.site ++ drop cluster.past sites.old) }
+    {
+        let first = cluster.first;
+        let past = cluster.past;
+        self.part(first, past)
+            .abut_from(cluster.site, &mut sites[first..past])
+    }
+
     // Fills `sites` with the sites of the row's cells, and answers what they cost. It keeps the clusters in a list that it is lent, empty and with room for a cluster of each cell.
     fn set_with<const N: usize>(&self, clusters: &mut Clusters<N>, sites: &mut [u32]) -> u64
         requires few { length self.now.cells.now ≤ N }
@@ -49,10 +57,11 @@ impl<'a, M: Measure> Task<'a, M> {
         ensures after { sites.new ≡ row_sites (M.price self.now.measure.now) self.now.row self.now.cells.now }
     {
         self.put_clusters(clusters);
+        let mut cost: u64 = 0;
         for cluster in clusters.as_slice() {
-            lay_one(self.cells, *cluster, sites);
+            cost += self.lay_one(*cluster, sites);
         }
-        self.cost_at(sites)
+        cost
     }
 
     // Fills `sites` with the sites of the row's cells, and answers what they cost.

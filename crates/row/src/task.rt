@@ -1,13 +1,13 @@
-// The task of setting a row: what its cells' moves cost, where they rise, and where they stand best together.
+// The task of setting a row: how the cost of its cells rises, and where they stand best together.
 ghost use Rattle.std.specs.Prelude.{◌≡◌, ◌+◌, ◌-◌, ◌<◌, ◌≤◌, length};
-ghost use Rattle.std.specs.List.{AllByRecursion, between};
+ghost use Rattle.std.specs.List.{between};
 ghost use Rattle.std.proofs.Props.{props};
 ghost use Rattle.row.specs.Records.{widths};
-ghost use Rattle.row.specs.Sites.{cluster_rise, climbs, least, sites_cost};
+ghost use Rattle.row.specs.Sites.{cluster_rise, climbs, least};
 ghost use Rattle.row.specs.Stack.{Ready};
 
 use crate::{Cell, Row};
-use measure::Measure;
+use measure::{LAST_PLACE, Measure};
 
 // A row and its cells, which are not refused, and the measure of what their moves cost.
 // Whoever makes one shows that no check of `set` refuses the row and its cells, so that none of them is done again.
@@ -30,6 +30,22 @@ fn probe(from: u32, to: u32, step: u32) -> u32
         to - step
     } else {
         from + (to - from) / 2
+    }
+}
+
+// How far to step from a start with the rise `rise` to the one to look at next, where the one `distance` sites behind had the rise
+// `above`: as far as a rise that goes on to fall so is at least 0, and twice as far as the last time where it hardly falls.
+fn next_step(above: Option<i64>, rise: i64, distance: u32) -> u32
+    requires { 1 ≤ distance }
+    ensures { 1 ≤ result }
+{
+    let Some(above) = above else {
+        return 1;
+    };
+    let slope = above.abs_diff(rise) / u64::from(distance);
+    match rise.unsigned_abs().checked_div(slope) {
+        Some(step) => step.clamp(1, u64::from(LAST_PLACE)) as u32,
+        None => distance.saturating_mul(2),
     }
 }
 
@@ -66,7 +82,7 @@ impl<'a, M: Measure> Task<'a, M> {
     }
 
     // The least start from `low` to `high` that is `high` or where the rise of the cells is at least 0.
-    // It is mostly near `high`: sought from there in steps that double, and then by halving what is left.
+    // It is mostly near `high`: sought from there in steps, and by halving where a step would lead too far.
     pub(crate) fn best_between(&self, low: u32, high: u32) -> u32
         requires some { low ≤ high }
         requires inside { high + widths self.now.cells.now ≤ 65535 }
@@ -75,29 +91,21 @@ impl<'a, M: Measure> Task<'a, M> {
         let mut from = low;
         let mut to = high;
         let mut step: u32 = 1;
+        // The rise at `to`, once it is known.
+        let mut above: Option<i64> = None;
         // By hand, since std's `partition_point` halves a slice, and this is a range of sites.
         while from < to {
             let probe = probe(from, to, step);
-            let climbs = self.rise_from(probe) >= 0;
+            let rise = self.rise_from(probe);
+            let climbs = rise >= 0;
             if climbs {
+                step = next_step(above, rise, to - probe);
+                above = Some(rise);
                 to = probe;
-                step = step.saturating_mul(2);
             } else {
                 from = probe + 1;
             }
         }
         from
-    }
-
-    // The cost of the cells at sites.
-    pub(crate) fn cost_at(&self, sites: &[u32]) -> u64
-        requires { AllByRecursion (λ x. x ≤ 65535) sites.now }
-        ensures { result ≡ sites_cost (M.price self.now.measure.now) self.now.cells.now sites.now }
-    {
-        self.cells
-            .iter()
-            .zip(sites)
-            .map(|(cell, site)| self.measure.cost(cell.wanted.site, cell.weight, *site))
-            .sum()
     }
 }

@@ -24,7 +24,7 @@ loop-from-preserved g c =
     let cells = c.args.self.now.cells.now in
     let test : ℕ → Bool = climbs (g.M.Measure.price c.args.self.now.measure.now) cells in
     let inv = c.loop-from.invariant.0 in
-    let fails : test probe ≡ false = tested c.rise_from-climbs.result _ false c.rise_from-climbs.type_inv c.rise_from-climbs.ensures c.if-climbs.false in
+    let fails : test probe ≡ false = tested c.rise_from-rise.result _ false c.rise_from-rise.type_inv c.rise_from-rise.ensures c.if-climbs.false in
     let fair = g.met.M.Measure.fair c.args.self.now.measure.now in
     let further : probe < least test c.args.low (c.args.high - c.args.low) =
     after from to probe _ inv (omega arith) fails (λ t u at up below. climbs_on fair cells t u (ready_known c.args.self.now.row c.args.self.now.cells.now c.args.self.now.ready).pass up (omega arith)) in
