@@ -127,6 +127,7 @@ seated_row f seats cell row s fresh found =
 pub record Chose (f : ℕ → ℕ → ℕ → ℕ) (rows : List Row) (seats : List Seat) (cell : Cell) (choice : Choice) : Type 0 where
   pub is : chosen f seats cell rows ≡ Some choice.row
   pub rises : choice.rise ≡ rise f seats cell choice.row
+  pub site : choice.site ≡ site_then cell.number (seated f seats cell choice.row)
   pub fresh : stands cell.number seats ≡ false
   pub granted : place_refusal rows seats cell ≡ None
   pub ready : Ready choice.row (cells_on choice.row (joined choice.row cell seats))
@@ -150,6 +151,7 @@ chose {f} fair rows seats cell {choice} {given} well free taken told = by_row (c
         record {
           is = chosen_is;
           rises = ap (λ c. c.rise) same ∙ ap (rise f seats cell) (sym row_is);
+          site = ap (λ c. c.site) same ∙ ap (λ r. site_then cell.number (seated f seats cell r)) (sym row_is);
           fresh = can.fresh;
           granted = not_refused rows seats cell none (chosen_any f rows seats cell choice.row chosen_is);
           ready = ready_standing rows seats well cell can choice.row good.stands good.fits;

@@ -15,10 +15,11 @@ impl<M: Measure> Floor<M> {
     {
         self.check_cell(&cell)?;
         let choice = self.choose(cell).ok_or(Refusal::NoRoom)?;
-        let line = choice.row.line;
-        let site = self.seats.on(choice.row).try_cell(&self.measure, cell).site;
         Ok(Placing {
-            spot: Spot { line, site },
+            spot: Spot {
+                line: choice.row.line,
+                site: choice.site,
+            },
             rise: choice.rise,
         })
     }
