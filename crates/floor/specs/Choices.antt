@@ -2,12 +2,14 @@
 --   trial_on          what a row costs once it is set with a cell more, and the cell's site then
 --   choice_of         a row, its rise for a cell, and the cell's site once the row is set with it
 --   choice_on         the same, where the row has sites for the cell
+--   placing_of        what placing a cell answers, by its choice
 use Rattle.std.specs.Prelude.{ℕ, cond, List, Some, None, Option}
 use Rattle.row.specs.declared.Cell.{Cell}
 use Rattle.row.specs.declared.Row.{Row}
 use Rattle.floor.specs.Calls.{rise, seated, site_then}
 use Rattle.floor.specs.Refusals.{has_sites}
 use Rattle.floor.specs.Seats.{row_cost}
+use Rattle.floor.specs.declared.Placing.{Placing}
 use Rattle.floor.specs.declared.Seat.{Seat}
 use Rattle.floor.specs.declared.choice.Choice.{Choice}
 use Rattle.floor.specs.declared.seats.trial.Trial.{Trial}
@@ -23,3 +25,7 @@ choice_of price seats cell row = record { row = row; rise = rise price seats cel
 -- the same, where the row has sites for the cell
 abbrev pub choice_on : (ℕ → ℕ → ℕ → ℕ) → List Seat → Cell → Row → Option Choice
 choice_on price seats cell row = cond (has_sites seats cell row) (Some (choice_of price seats cell row)) None
+
+-- what placing a cell answers, by its choice
+abbrev pub placing_of : Choice → Placing
+placing_of c = record { spot = record { line = c.row.line; site = c.site }; rise = c.rise }

@@ -2,14 +2,15 @@
 ghost use Rattle.std.specs.Prelude.{◌≡◌, ◌≤◌, true, not, is_some};
 ghost use Rattle.std.specs.Option.{option_map};
 ghost use Rattle.floor.specs.Calls.{chosen};
-ghost use Rattle.floor.specs.Choices.{choice_of, choice_on};
+ghost use Rattle.floor.specs.Choices.{choice_of, choice_on, placing_of};
 ghost use Rattle.floor.specs.Formed.{formed};
 ghost use Rattle.floor.specs.Refusals.{cell_refusal, has_sites};
 ghost use Rattle.floor.specs.Seats.{CanTake};
 
+use crate::Placing;
 use crate::seats::{RowSeats, Seats};
 use measure::Measure;
-use row::{Cell, Row};
+use row::{Cell, Row, Spot};
 
 // A cell that is offered to the rows of a floor: no check refuses it but that of the rows.
 #[derive(Drop)]
@@ -26,6 +27,21 @@ pub(crate) struct Choice {
     pub(crate) row: Row,
     pub(crate) rise: u64,
     pub(crate) site: u32,
+}
+
+impl Choice {
+    // What placing the cell there answers.
+    pub(crate) fn placing(&self) -> Placing
+        ensures { result ≡ placing_of self.now }
+    {
+        Placing {
+            spot: Spot {
+                line: self.row.line,
+                site: self.site,
+            },
+            rise: self.rise,
+        }
+    }
 }
 
 impl<M: Measure> Offer<'_, M> {

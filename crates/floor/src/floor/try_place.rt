@@ -6,7 +6,7 @@ ghost use Rattle.floor.specs.State.{rows_of, seats_of};
 use crate::floor::Floor;
 use crate::{Placing, Refusal};
 use measure::Measure;
-use row::{Cell, Spot};
+use row::Cell;
 
 impl<M: Measure> Floor<M> {
     // What `place` would answer for a cell. Nothing changes.
@@ -15,12 +15,6 @@ impl<M: Measure> Floor<M> {
     {
         self.check_cell(&cell)?;
         let choice = self.choose(cell).ok_or(Refusal::NoRoom)?;
-        Ok(Placing {
-            spot: Spot {
-                line: choice.row.line,
-                site: choice.site,
-            },
-            rise: choice.rise,
-        })
+        Ok(choice.placing())
     }
 }

@@ -1,3 +1,4 @@
+use Rattle.std.proofs.Common.{Ok, ap, ◌∙◌}
 use Rattle.floor.proofs.Placed.{chose, placing_is}
 use Rattle.floor.proofs.floor.Floor.try_place.Goals as goal
 
@@ -5,4 +6,4 @@ pub returns : goal.returns
 returns g c =
     let self = c.args.self.now in
     let known = chose (g.met.M.Measure.fair self.measure) self.rows.items self.seats.items.items c.args.cell self.well c.in_ok-check_cell.ensures c.in_ok-choice.ensures.value c.choose.ensures in
-    placing_is self.rows.items self.seats.items.items c.args.cell c.in_ok-choice.choice known known.site
+    ap Ok c.placing.ensures ∙ placing_is self.rows.items self.seats.items.items c.args.cell c.in_ok-choice.choice known
