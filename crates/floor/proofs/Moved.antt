@@ -1,13 +1,12 @@
 -- One turn of the loop that moves seats, and what it comes to on a stretch.
-use Rattle.std.proofs.Common.{◌≡◌, ℕ, ◌-◌, ◌≤◌, true, false, cond, List, [], ◌∷◌, ◌++◌, length, take, drop, sym, refl, ap, ◌∙◌, subst, arith}
+use Rattle.std.proofs.Common.{◌≡◌, ℕ, ◌-◌, true, false, cond, List, [], ◌∷◌, ◌++◌, length, take, drop, sym, refl, ap, ◌∙◌, subst, arith}
 use Rattle.std.proofs.ByRecursion.{kept_by_passes}
 use Rattle.std.proofs.lemmas.List.{take-append-drop, take_at, length-map}
 use borrow.Rule.Slice.PartMut.{put_mid}
 use Rattle.std.specs.List.{between, AllByRecursion}
 use Rattle.std.specs.declared.ops.Range.{Range}
 use Rattle.row.specs.declared.Row.{Row}
-use Rattle.table.specs.Order.{Ordered}
-use Rattle.floor.specs.Seats.{on_row, seat_ahead, seats_on, cells_on, cell_of, moved, moved_all, resited}
+use Rattle.floor.specs.Seats.{on_row, seats_on, cells_on, cell_of, moved, moved_all, resited}
 use Rattle.floor.specs.Spans.{Spanned}
 use Rattle.floor.specs.declared.Seat.{Seat}
 use Rattle.floor.proofs.Resited.{resited_length}

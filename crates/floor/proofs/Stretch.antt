@@ -1,13 +1,12 @@
 -- The seats of a row are one stretch of an ordered table.
-use Rattle.std.proofs.Common.{◌≡◌, ℕ, ◌+◌, ◌-◌, ◌≤◌, Bool, true, false, List, [], ◌∷◌, ◌++◌, map, length, take, drop, filter, sym, refl, ap, ◌∙◌, subst, append-nil, append_assoc, ⊎_elim, arith}
+use Rattle.std.proofs.Common.{◌≡◌, ℕ, ◌+◌, ◌-◌, ◌≤◌, Bool, true, false, List, [], ◌∷◌, ◌++◌, map, length, take, drop, sym, refl, ap, ◌∙◌, subst, append_assoc, one-add, ⊎_elim, arith}
 use mathlib.Core.List.{map-append}
-use Rattle.std.proofs.ByRecursion.{All-take, All-drop, All-weaker, all_kept_by}
+use Rattle.std.proofs.ByRecursion.{All-weaker, all_kept_by}
 use Rattle.std.proofs.lemmas.Bool.{cond_both, cond-true, cond-false, both_ways, cases_Bool}
 use Rattle.std.proofs.lemmas.List.Sums.{length-filter, count_by-le-length, prefix_len-le-length, take_while-cons}
 use Rattle.std.proofs.lemmas.List.{length-drop}
 use Rattle.std.specs.List.{prefix_len, take_while, AllByRecursion}
 use Rattle.std.specs.declared.ops.Range.{Range}
-use Rattle.row.proofs.Ranges.{ranged}
 use Rattle.row.specs.Records.{row_ahead}
 use Rattle.row.specs.declared.Cell.{Cell}
 use Rattle.row.specs.declared.Row.{Row}
@@ -49,6 +48,14 @@ module _ (row : Row) where
       ∙ cond_both (on_row row s) (s ∷ take_while (on_row row) seats) [] (λ l. l ≡ seats_on row (s ∷ seats))
       (λ on. ap (λ l. s ∷ l) (own_first seats ordered.1 from.1) ∙ sym (kept_yes (on_row row) s seats on))
       (λ off. sym (kept_none (on_row row) (s ∷ seats) (off, All-weaker (λ t. seat_ahead s t ≡ true) (λ t. on_row row t ≡ false) (λ t. later_off row s t (from.0 off)) seats ordered.0)))
+
+  -- .. and none of those behind them is on it
+  pub own_ends : (seats : List Seat) → Ordered seat_ahead seats → AllByRecursion (NotBefore row) seats → AllByRecursion (λ s. on_row row s ≡ false) (drop (prefix_len (on_row row) seats) seats)
+  own_ends [] ordered from = tt
+  own_ends (s ∷ seats) ordered from =
+      cond_both (on_row row s) (1 + prefix_len (on_row row) seats) 0 (λ n. AllByRecursion (λ t. on_row row t ≡ false) (drop n (s ∷ seats)))
+      (λ on. subst (λ n. AllByRecursion (λ t. on_row row t ≡ false) (drop n (s ∷ seats))) (sym (one-add (prefix_len (on_row row) seats))) (own_ends seats ordered.1 from.1))
+      (λ off. (off, All-weaker (λ t. seat_ahead s t ≡ true) (λ t. on_row row t ≡ false) (λ t. later_off row s t (from.0 off)) seats ordered.0))
 
 -- a stretch that begins where a search says, and is as long as the seats from there on are on the row
 pub spanned : (row : Row) (seats : List Seat) (r : Range ℕ) {rest : List Seat} {long : ℕ} → Ordered seat_ahead seats → r.start ≡ rank_of seat_ahead seats (row_key row) → rest ≡ drop r.start seats → long ≡ prefix_len (on_row row) rest → r.end ≡ r.start + long → Spanned row seats r

@@ -65,17 +65,18 @@ impl<M: Measure> Offer<'_, M> {
     }
 
     // A row as a choice, where it has sites for the cell.
-    fn choice_on(&self, row: &Row) -> Option<Choice>
-        requires some { row.now.left ≤ row.now.right }
-        requires ready { has_sites self.now.seats.now.items.items self.now.cell row.now ≡ true
-            → CanTake row.now self.now.cell self.now.seats.now.items.items }
-        ensures { result ≡ choice_on (M.price self.now.measure.now) self.now.seats.now.items.items self.now.cell row.now }
+    fn choice_on(&self, own: &RowSeats<'_>) -> Option<Choice>
+        requires table { own.now.table.now ≡ self.now.seats.now }
+        requires some { own.now.row.left ≤ own.now.row.right }
+        requires ready { has_sites self.now.seats.now.items.items self.now.cell own.now.row ≡ true
+            → CanTake own.now.row self.now.cell self.now.seats.now.items.items }
+        ensures { result ≡ choice_on (M.price self.now.measure.now) self.now.seats.now.items.items self.now.cell own.now.row }
     {
-        let own = self.seats.on(*row);
-        if !own.has_sites(&self.cell) {
-            return None;
+        if own.has_sites(&self.cell) {
+            Some(self.choice(own))
+        } else {
+            None
         }
-        Some(self.choice(&own))
     }
 
     // The row of least rise among those that have sites for the cell; of equal ones the first in row order.
@@ -84,8 +85,9 @@ impl<M: Measure> Offer<'_, M> {
         ensures { result ≡ option_map (choice_of (M.price self.now.measure.now) self.now.seats.now.items.items self.now.cell)
             (chosen (M.price self.now.measure.now) self.now.seats.now.items.items self.now.cell rows.now) }
     {
-        rows.iter()
-            .filter_map(|row| self.choice_on(row))
+        self.seats
+            .walk(rows)
+            .filter_map(|own| self.choice_on(&own))
             .min_by_key(|choice| choice.rise)
     }
 }

@@ -62,19 +62,6 @@ impl Seats {
         let (_, ahead) = self.items.split_at(start);
         start..start + count_on(&row, ahead)
     }
-
-    // A row with the seats on it.
-    pub(crate) fn on(&self, row: Row) -> RowSeats<'_>
-        ensures table { result.table.now ≡ self.now }
-        ensures row { result.row ≡ row }
-    {
-        let stretch = self.stretch_of(row);
-        RowSeats {
-            table: self,
-            row,
-            seats: &self.items[stretch.start..stretch.end],
-        }
-    }
 }
 
 impl RowSeats<'_> {
