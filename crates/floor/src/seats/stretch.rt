@@ -3,7 +3,7 @@ ghost use Rattle.std.specs.Prelude.{◌≡◌, ◌^◌, ◌≤◌, length};
 ghost use Rattle.std.specs.List.{prefix_len};
 ghost use Rattle.row.specs.Records.{widths};
 ghost use Rattle.floor.specs.Refusals.{has_sites};
-ghost use Rattle.floor.specs.Seats.{cells_on, on_row, row_key, row_cost, seats_on};
+ghost use Rattle.floor.specs.Seats.{across_of, cells_on, on_row, row_key, row_cost, seats_on, Sited};
 ghost use Rattle.floor.specs.Spans.{Spanned};
 
 use crate::Seat;
@@ -37,6 +37,15 @@ fn key(row: Row) -> Seat
 }
 
 impl Seat {
+    // What the site of a seat costs.
+    fn site_cost<M: Measure>(&self, measure: &M) -> u64
+        requires { Sited self.now }
+        ensures { result ≡ across_of (M.price measure.now) self.now }
+    {
+        let Seat { cell, row: _, site } = self;
+        measure.price_at(cell.wanted.site as u16, cell.weight as u16, *site as u16)
+    }
+
     // Whether a seat is on a row.
     fn is_on(&self, row: &Row) -> bool
         ensures { result ≡ on_row row.now self.now }
@@ -72,7 +81,7 @@ impl RowSeats<'_> {
     {
         self.seats
             .iter()
-            .map(|seat| measure.cost(seat.cell.wanted.site, seat.cell.weight, seat.site))
+            .map(|seat| seat.site_cost(measure))
             .sum()
     }
 
