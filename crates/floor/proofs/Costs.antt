@@ -11,7 +11,7 @@ use Rattle.row.proofs.Ranges.{ranged}
 use Rattle.row.specs.Sites.{sites_cost}
 use Rattle.row.specs.declared.Row.{Row}
 use Rattle.floor.specs.Formed.{formed}
-use Rattle.floor.specs.Seats.{Sited, cell_of, site_of, floor_cost}
+use Rattle.floor.specs.Seats.{Sited, across_of, cell_of, site_of, floor_cost}
 use Rattle.floor.specs.declared.Seat.{Seat}
 use Rattle.floor.proofs.Defaults.{no_seat}
 use Rattle.floor.proofs.Known.{SeatKnown, known_slice}
@@ -32,26 +32,22 @@ cost_small {f} fair w e p = by_test (in_range w e p) refl
     by_test true is = fair.bounded w e p (range_within w e p is)
     by_test false is = omega arith
 
--- what the site of a seat costs, as a measure answers it
-abbrev pub across_of : (ℕ → ℕ → ℕ → ℕ) → Seat → ℕ
-across_of f s = cost_of f s.cell.wanted.site s.cell.weight s.site
-
-pub across_bound : {f : ℕ → ℕ → ℕ → ℕ} → Fair f → (seats : List Seat) → sum_by (across_of f) seats ≤ 2 ^ 42 * length seats
-across_bound fair [] = omega arith
-across_bound {f} fair (s ∷ seats) =
-    let one = cost_small fair s.cell.wanted.site s.cell.weight s.site in
-    let rest = across_bound fair seats in
+-- the sites of seats at places cost little ..
+pub across_bound : {f : ℕ → ℕ → ℕ → ℕ} → Fair f → (seats : List Seat) → AllByRecursion Sited seats → sum_by (across_of f) seats ≤ 2 ^ 42 * length seats
+across_bound fair [] sited = omega arith
+across_bound {f} fair (s ∷ seats) sited =
+    let own = ranged s.cell sited.0.0 in
+    let place = sited.0.1 in
+    let one = fair.bounded s.cell.wanted.site s.cell.weight s.site (omega arith) in
+    let rest = across_bound fair seats sited.1 in
     let more = sum_by-cons (across_of f) s seats in
     omega arith
 
--- the sites of seats at places, added up
-pub across_sum : (f : ℕ → ℕ → ℕ → ℕ) (seats : List Seat) → AllByRecursion Sited seats → sum_by (across_of f) seats ≡ sites_cost f (map cell_of seats) (map site_of seats)
-across_sum f [] sited = refl
-across_sum f (s ∷ seats) sited =
-    let own = ranged s.cell sited.0.0 in
-    let place = sited.0.1 in
-    let one = cost_within f s.cell.wanted.site s.cell.weight s.site (omega arith) in
-    let rest = across_sum f seats sited.1 in
+-- .. and are what a row's sites cost, added up
+pub across_sum : (f : ℕ → ℕ → ℕ → ℕ) (seats : List Seat) → sum_by (across_of f) seats ≡ sites_cost f (map cell_of seats) (map site_of seats)
+across_sum f [] = refl
+across_sum f (s ∷ seats) =
+    let rest = across_sum f seats in
     let more = sum_by-cons (across_of f) s seats in
     omega arith
 

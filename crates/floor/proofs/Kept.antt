@@ -1,5 +1,5 @@
 -- What a filter keeps of a list, of any two of it, and of a list with one more.
-use Rattle.std.proofs.Common.{◌≡◌, ℕ, Bool, true, false, cond, List, [], ◌∷◌, ◌++◌, take, drop, filter, sym, refl, ap, ◌∙◌, subst}
+use Rattle.std.proofs.Common.{◌≡◌, ℕ, zero, suc, Bool, true, false, cond, List, [], ◌∷◌, ◌++◌, take, drop, filter, sym, refl, ap, ◌∙◌, subst}
 use mathlib.Core.Path.{fun_ext}
 use Rattle.std.proofs.lemmas.List.Elements.{filter-append}
 use Rattle.std.proofs.ByRecursion.{All-weaker, all_kept_by}
@@ -28,6 +28,12 @@ pairs_weaker R T give xs rs = pairs_with R R T (λ x y r _. give x y r) xs rs rs
 pub pairs_both : {X : Type 0} (P : X → Type 0) (xs : List X) → AllByRecursion P xs → Pairs (λ x y. P x × P y) xs
 pairs_both P [] h = tt
 pairs_both P (x ∷ xs) h = (All-weaker P (λ y. P x × P y) (λ y own. (h.0, own)) xs h.1, pairs_both P xs h.1)
+
+-- what is left of a list in order is in order
+pub ordered_drop : {X : Type 0} (ahead : X → X → Bool) (n : ℕ) (xs : List X) → Ordered ahead xs → Ordered ahead (drop n xs)
+ordered_drop ahead zero xs h = h
+ordered_drop ahead (suc n) [] h = tt
+ordered_drop ahead (suc n) (x ∷ xs) h = ordered_drop ahead n xs h.1
 
 module _ {X : Type 0} (p : X → Bool) where
   -- one that passes, and one that does not

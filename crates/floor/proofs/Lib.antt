@@ -24,4 +24,5 @@ pub mod Settling
 pub mod Stretch
 pub mod Tests
 pub mod Trying
+pub mod Walked
 pub mod Widths

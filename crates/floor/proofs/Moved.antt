@@ -1,16 +1,15 @@
 -- One turn of the loop that moves seats, and what it comes to on a stretch.
-use Rattle.std.proofs.Common.{◌≡◌, ℕ, ◌-◌, ◌≤◌, true, false, cond, List, [], ◌∷◌, ◌++◌, length, take, drop, sym, refl, ap, ◌∙◌, subst, arith}
+use Rattle.std.proofs.Common.{◌≡◌, ℕ, ◌-◌, true, false, cond, List, [], ◌∷◌, ◌++◌, length, take, drop, sym, refl, ap, ◌∙◌, subst, arith}
+use Rattle.std.proofs.ByRecursion.{kept_by_passes}
 use Rattle.std.proofs.lemmas.List.{take-append-drop, take_at, length-map}
 use borrow.Rule.Slice.PartMut.{put_mid}
 use Rattle.std.specs.List.{between, AllByRecursion}
 use Rattle.std.specs.declared.ops.Range.{Range}
 use Rattle.row.specs.declared.Row.{Row}
-use Rattle.table.specs.Order.{Ordered}
-use Rattle.floor.specs.Seats.{on_row, seat_ahead, seats_on, cells_on, cell_of, Sited, start_of, end_of, moved, moved_all, resited}
+use Rattle.floor.specs.Seats.{on_row, seats_on, cells_on, cell_of, moved, moved_all, resited}
 use Rattle.floor.specs.Spans.{Spanned}
 use Rattle.floor.specs.declared.Seat.{Seat}
 use Rattle.floor.proofs.Resited.{resited_length}
-use Rattle.floor.proofs.Stretch.{wanted_places, none_before, all_among, seats_stretch}
 
 -- no sites rewrite nothing
 pub resited_nothing : (row : Row) (seats : List Seat) → resited row [] seats ≡ seats
@@ -32,32 +31,26 @@ along row (x ∷ xs) [] back on each = absurd (omega arith)
 along row (x ∷ xs) (s ∷ middle) back on each =
     ap (λ t. cond t (moved s x ∷ resited row xs (middle ++ back)) (s ∷ resited row (x ∷ xs) (middle ++ back))) on.0 ∙ ap (λ l. moved s x ∷ l) (along row xs middle back on.1 (omega arith))
 
--- a stretch that was found is the stretch of the definitions
-seats_stretch' : (row : Row) (seats : List Seat) (r : Range ℕ) → Spanned row seats r → Ordered seat_ahead seats → AllByRecursion (λ s. s.cell.wanted.site ≤ 65535) seats → between (start_of row seats) (end_of row seats) seats ≡ between r.start r.end seats
-seats_stretch' row seats r own ordered places = sym (seats_stretch row seats ordered places) ∙ sym own.seats_are
-
 -- the seats of a row, which are one stretch, moved to sites leave the seats with that row's sites rewritten
-pub stretch_resited : (row : Row) (sites : List ℕ) (seats : List Seat) (r : Range ℕ) → Ordered seat_ahead seats → AllByRecursion Sited seats → Spanned row seats r → length sites ≡ length (cells_on row seats) →
+pub stretch_resited : (row : Row) (sites : List ℕ) (seats : List Seat) (r : Range ℕ) → Spanned row seats r → length sites ≡ length (cells_on row seats) →
     put_mid r.start (r.end - r.start) seats (moved_all sites (between r.start r.end seats)) ≡ resited row sites seats
-stretch_resited row sites seats r ordered sited own each =
-    let places = wanted_places seats sited in
+stretch_resited row sites seats r own each =
     let first = own.first in
-    let none = subst (λ n. AllByRecursion (λ s. on_row row s ≡ false) (take n seats)) (sym own.start) (none_before row seats ordered places) in
-    let on = subst (AllByRecursion (λ s. on_row row s ≡ true)) (seats_stretch' row seats r own ordered places) (all_among row seats ordered places) in
+    let on = subst (AllByRecursion (λ s. on_row row s ≡ true)) (sym own.seats_are) (kept_by_passes (on_row row) seats) in
     let long : length (cells_on row seats) ≡ length (between r.start r.end seats) = length-map (seats_on row seats) cell_of ∙ sym (ap length own.seats_are) in
     let middle : List Seat = between r.start r.end seats in
     let back : List Seat = drop (r.end - r.start) (drop r.start seats) in
     let parts : take r.start seats ++ (middle ++ back) ≡ seats =
     ap (λ l. take r.start seats ++ l) (take-append-drop (r.end - r.start) (drop r.start seats)) ∙ take-append-drop r.start seats in
-    ap (λ l. take r.start seats ++ l) (sym (along row sites middle back on (each ∙ long))) ∙ sym (skip row sites (take r.start seats) (middle ++ back) none) ∙ ap (resited row sites) parts
+    ap (λ l. take r.start seats ++ l) (sym (along row sites middle back on (each ∙ long))) ∙ sym (skip row sites (take r.start seats) (middle ++ back) own.none_before) ∙ ap (resited row sites) parts
 
 -- the same as it is written into the table, through a slice of it
-pub written_resited : (row : Row) (sites : List ℕ) (seats slice moved : List Seat) (r : Range ℕ) (n : ℕ) → Ordered seat_ahead seats → AllByRecursion Sited seats → Spanned row seats r → length sites ≡ length (cells_on row seats) → slice ≡ seats → moved ≡ moved_all sites (between r.start r.end slice) → n ≡ length seats →
+pub written_resited : (row : Row) (sites : List ℕ) (seats slice moved : List Seat) (r : Range ℕ) (n : ℕ) → Spanned row seats r → length sites ≡ length (cells_on row seats) → slice ≡ seats → moved ≡ moved_all sites (between r.start r.end slice) → n ≡ length seats →
     take n (put_mid r.start (r.end - r.start) slice moved ++ drop (length (put_mid r.start (r.end - r.start) slice moved)) seats) ≡ resited row sites seats
-written_resited row sites seats slice moved r n ordered sited own each same is long =
+written_resited row sites seats slice moved r n own each same is long =
     let whole : List Seat = put_mid r.start (r.end - r.start) slice moved in
     let done : whole ≡ resited row sites seats =
     (λ i. put_mid r.start (r.end - r.start) (same i) (is i))
-    ∙ ap (λ l. put_mid r.start (r.end - r.start) seats (moved_all sites (between r.start r.end l))) same ∙ stretch_resited row sites seats r ordered sited own each in
+    ∙ ap (λ l. put_mid r.start (r.end - r.start) seats (moved_all sites (between r.start r.end l))) same ∙ stretch_resited row sites seats r own each in
     let all : length whole ≡ n = ap length done ∙ resited_length row sites seats ∙ sym long in
     take_at whole (drop (length whole) seats) n all ∙ done

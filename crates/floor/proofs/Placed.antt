@@ -4,7 +4,7 @@ use Rattle.std.proofs.lemmas.Bool.{or_left, or_right, cond_both, cond-true, cond
 use Rattle.std.proofs.ByRecursion.{All-weaker}
 use Rattle.std.proofs.lemmas.Option.{same_Some}
 use Rattle.std.specs.List.{AllByRecursion, list_any}
-use Rattle.std.specs.Option.{option_map, unwrap_or, ok_or}
+use Rattle.std.specs.Option.{option_map, ok_or}
 use Rattle.measure.specs.Costs.{Fair}
 use Rattle.row.specs.Records.{check, then}
 use Rattle.row.specs.Sites.{row_sites}
@@ -13,13 +13,12 @@ use Rattle.row.specs.Task.{changed}
 use Rattle.row.proofs.Accepted.{both}
 use Rattle.row.specs.declared.Cell.{Cell}
 use Rattle.row.specs.declared.Row.{Row}
-use Rattle.row.specs.declared.Spot.{Spot}
 use Rattle.table.proofs.Inserted.{put_in, put_all, inserted_is}
-use Rattle.floor.specs.Calls.{better, chosen, rise, seated, seat_of, spot, site_then, refused_or, placed_on, place_answer, seated_on, seats_after_place}
-use Rattle.floor.specs.Choices.{choice_of}
+use Rattle.floor.specs.Calls.{better, chosen, rise, seated, seat_of, site_then, refused_or, placed_on, place_answer, seated_on, seats_after_place}
+use Rattle.floor.specs.Choices.{choice_of, placing_of}
 use Rattle.floor.specs.Formed.{formed}
 use Rattle.floor.specs.Refusals.{has_sites, stands, cell_refusal, place_refusal}
-use Rattle.floor.specs.Seats.{seat_ahead, cells_on, site_of, new_seat, joined, resited}
+use Rattle.floor.specs.Seats.{seat_ahead, cells_on, new_seat, joined, resited}
 use Rattle.floor.specs.declared.Refusal.{Refusal}
 use Rattle.floor.specs.declared.Refusal.TheVariants.{NoRoom}
 use Rattle.floor.specs.declared.Seat.{Seat}
@@ -127,6 +126,7 @@ seated_row f seats cell row s fresh found =
 pub record Chose (f : ℕ → ℕ → ℕ → ℕ) (rows : List Row) (seats : List Seat) (cell : Cell) (choice : Choice) : Type 0 where
   pub is : chosen f seats cell rows ≡ Some choice.row
   pub rises : choice.rise ≡ rise f seats cell choice.row
+  pub site : choice.site ≡ site_then cell.number (seated f seats cell choice.row)
   pub fresh : stands cell.number seats ≡ false
   pub granted : place_refusal rows seats cell ≡ None
   pub ready : Ready choice.row (cells_on choice.row (joined choice.row cell seats))
@@ -150,30 +150,20 @@ chose {f} fair rows seats cell {choice} {given} well free taken told = by_row (c
         record {
           is = chosen_is;
           rises = ap (λ c. c.rise) same ∙ ap (rise f seats cell) (sym row_is);
+          site = ap (λ c. c.site) same ∙ ap (λ r. site_then cell.number (seated f seats cell r)) (sym row_is);
           fresh = can.fresh;
           granted = not_refused rows seats cell none (chosen_any f rows seats cell choice.row chosen_is);
           ready = ready_standing rows seats well cell can choice.row good.stands good.fits;
           well = seated_formed f fair rows seats cell choice.row well can good.stands good.fits;
         }
 
--- what placing answers then: the site is that of the new cell's seat
-pub placing_is : {f : ℕ → ℕ → ℕ → ℕ} (rows : List Row) (seats : List Seat) (cell : Cell) (choice : Choice) {site : ℕ} → Chose f rows seats cell choice → site ≡ site_then cell.number (seated f seats cell choice.row) →
-    Ok (record { spot = record { line = choice.row.line; site = site }; rise = choice.rise }) ≡ place_answer f rows seats cell
-placing_is {f} rows seats cell choice known is =
-    (λ i. Ok (record { spot = record { line = choice.row.line; site = is i }; rise = known.rises i }))
+-- what placing answers then
+pub placing_is : {f : ℕ → ℕ → ℕ → ℕ} (rows : List Row) (seats : List Seat) (cell : Cell) (choice : Choice) → Chose f rows seats cell choice → Ok (placing_of choice) ≡ place_answer f rows seats cell
+placing_is {f} rows seats cell choice known =
+    (λ i. Ok (record { spot = record { line = choice.row.line; site = known.site i }; rise = known.rises i }))
     ∙ sym (ap (λ o. refused_or o (placed_on f seats cell (chosen f seats cell rows))) known.granted ∙ ap (placed_on f seats cell) known.is)
 
--- the seat has that site, on the row that was chosen; and the seats then
-pub answers : {f : ℕ → ℕ → ℕ → ℕ} (rows : List Row) (seats after : List Seat) (cell : Cell) (choice : Choice) (seat : Seat) {at : Spot} → Chose f rows seats cell choice → after ≡ seated f seats cell choice.row → seat_of cell.number after ≡ Some seat → at ≡ spot seat →
-    Ok (record { spot = at; rise = choice.rise }) ≡ place_answer f rows seats cell
-answers {f} rows seats after cell choice seat known same found is =
-    let site : seat.site ≡ site_then cell.number (seated f seats cell choice.row) =
-    sym (ap (λ o. unwrap_or (option_map site_of o) 0) found) ∙ ap (λ l. unwrap_or (option_map site_of (seat_of cell.number l)) 0) same in
-    let own : seat.row ≡ choice.row = seated_row f seats cell choice.row seat known.fresh (sym (ap (seat_of cell.number) same) ∙ found) in
-    (λ i. Ok (record { spot = is i; rise = choice.rise }))
-    ∙ (λ i. Ok (record { spot = record { line = (own i).line; site = seat.site }; rise = choice.rise }))
-    ∙ placing_is rows seats cell choice known site
-
+-- and the seats then
 pub seats_then : {f : ℕ → ℕ → ℕ → ℕ} (rows : List Row) (seats : List Seat) (cell : Cell) (choice : Choice) → Chose f rows seats cell choice → seated f seats cell choice.row ≡ seats_after_place f rows seats cell
 seats_then {f} rows seats cell choice known =
     sym (ap (λ o. changed o (seated_on f seats cell (chosen f seats cell rows)) seats) known.granted ∙ ap (seated_on f seats cell) known.is)

@@ -167,7 +167,7 @@ set_row {f} fair row seats {looked} {slice} {moved} {none} {gathered} {cells} {s
     let all : cells ≡ cs = same ∙ gather ∙ (λ i. empty i ++ map cell_of (between r.start r.end (look i))) ∙ ap (map cell_of) own.seats_are in
     let found : sites ≡ row_sites f row cs = set ∙ ap (row_sites f row) all in
     let each : length (row_sites f row cs) ≡ length cs = sites_each fair row cs ready in
-    let is = written_resited row (row_sites f row cs) seats slice moved r n ordered sited own each slices (move ∙ ap (λ xs. moved_all xs (between r.start r.end slice)) found) long in
+    let is = written_resited row (row_sites f row cs) seats slice moved r n own each slices (move ∙ ap (λ xs. moved_all xs (between r.start r.end slice)) found) long in
     let places = row_places f row cs (length cs) fair (accepted row cs (length cs) ready) in
     record {
       is = is;

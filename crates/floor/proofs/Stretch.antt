@@ -1,101 +1,83 @@
 -- The seats of a row are one stretch of an ordered table.
-use Rattle.std.proofs.Common.{◌≡◌, ℕ, ◌-◌, ◌≤◌, Bool, true, false, List, [], ◌∷◌, ◌++◌, map, length, take, drop, filter, sym, refl, ap, ◌∙◌, subst, append-nil, append_assoc, ⊎_elim, arith}
+use Rattle.std.proofs.Common.{◌≡◌, ℕ, ◌+◌, ◌-◌, ◌≤◌, Bool, true, false, List, [], ◌∷◌, ◌++◌, map, length, take, drop, sym, refl, ap, ◌∙◌, subst, append_assoc, one-add, ⊎_elim, arith}
 use mathlib.Core.List.{map-append}
-use Rattle.std.proofs.lemmas.List.Edits.{split_between}
-use Rattle.std.proofs.lemmas.List.Elements.{filter-append}
-use Rattle.std.proofs.ByRecursion.{All-take, All-drop, All-weaker, all_kept_by}
+use Rattle.std.proofs.ByRecursion.{All-weaker, all_kept_by}
 use Rattle.std.proofs.lemmas.Bool.{cond_both, cond-true, cond-false, both_ways, cases_Bool}
-use Rattle.std.proofs.lemmas.List.Sums.{length-filter, count_by-le-length}
-use Rattle.std.proofs.lemmas.Slice.{between_is}
-use Rattle.std.specs.List.{between, AllByRecursion}
+use Rattle.std.proofs.lemmas.List.Sums.{length-filter, count_by-le-length, prefix_len-le-length, take_while-cons}
+use Rattle.std.proofs.lemmas.List.{length-drop}
+use Rattle.std.specs.List.{prefix_len, take_while, AllByRecursion}
 use Rattle.std.specs.declared.ops.Range.{Range}
-use Rattle.row.proofs.Ranges.{ranged}
+use Rattle.row.specs.Records.{row_ahead}
 use Rattle.row.specs.declared.Cell.{Cell}
 use Rattle.row.specs.declared.Row.{Row}
 use Rattle.table.specs.Order.{Ordered, rank_of}
 use Rattle.table.proofs.Inserted.{put_in, inserted_is}
-use Rattle.table.proofs.Sides.{rank_within, rank_front, rank_back, rank_mono}
-use Rattle.floor.specs.Seats.{on_row, seat_ahead, seats_on, cells_on, cell_of, Sited, row_key, start_of, end_of, new_seat, joined}
+use Rattle.table.proofs.Sides.{rank_within, rank_front, rank_back}
+use Rattle.floor.specs.Seats.{on_row, seat_ahead, seats_on, cells_on, cell_of, Sited, row_key, new_seat, joined}
 use Rattle.floor.specs.Spans.{Spanned}
 use Rattle.floor.specs.declared.Seat.{Seat}
 use Rattle.floor.proofs.Defaults.{no_seat}
-use Rattle.floor.proofs.Kept.{kept_yes, kept_no, kept_all, kept_none, kept_ordered, all_with}
+use Rattle.floor.proofs.Kept.{kept_yes, kept_no, kept_none, kept_parts, kept_ordered, ordered_drop}
 use Rattle.floor.proofs.Orders.{seat_chain}
 
--- what the two keys of a row say of a seat
-before_low : (row : Row) (s : Seat) → seat_ahead s (row_key row 0) ≡ true → on_row row s ≡ false
-before_low row s e = grind arith
-
-past_high : (row : Row) (s : Seat) → s.cell.wanted.site ≤ 65535 → seat_ahead s (row_key row 65536) ≡ false → on_row row s ≡ false
-past_high row s low e = grind arith
-
-among : (row : Row) (s : Seat) → seat_ahead s (row_key row 0) ≡ false → seat_ahead s (row_key row 65536) ≡ true → on_row row s ≡ true
-among row s low high = grind arith
-
-low_high : (row : Row) (s : Seat) → seat_ahead s (row_key row 0) ≡ true → seat_ahead s (row_key row 65536) ≡ true
-low_high row s e = grind arith
+-- a seat that is ahead of a row's key is not on the row
+ahead_off : (row : Row) (s : Seat) → seat_ahead s (row_key row) ≡ true → on_row row s ≡ false
+ahead_off row s e = grind arith
 
 on_own : (row : Row) (cell : Cell) → on_row row (new_seat row cell) ≡ true
 on_own row cell = grind arith
 
-module _ (row : Row) (seats : List Seat) (ordered : Ordered seat_ahead seats) (low_sites : AllByRecursion (λ s. s.cell.wanted.site ≤ 65535) seats) where
-  abbrev low : ℕ
-  low = start_of row seats
+-- a seat on the row or on a later one
+abbrev pub NotBefore : Row → Seat → Type 0
+NotBefore row s = on_row row s ≡ false → row_ahead row s.row ≡ true
 
-  abbrev high : ℕ
-  high = end_of row seats
+-- a seat that is not ahead of a row's key is on the row or on a later one
+not_before : (row : Row) (s : Seat) → seat_ahead s (row_key row) ≡ false → NotBefore row s
+not_before row s behind off = grind arith
 
-  pub start_end : low ≤ high
-  start_end = rank_mono seat_ahead (row_key row 0) (row_key row 65536) (low_high row) seats
+-- a seat behind one of a later row is not on the row
+later_off : (row : Row) (s t : Seat) → row_ahead row s.row ≡ true → seat_ahead s t ≡ true → on_row row t ≡ false
+later_off row s t later first = grind arith
 
-  pub end_within : high ≤ length seats
-  end_within = rank_within seat_ahead seat_chain (row_key row 65536) no_seat seats ordered
+module _ (row : Row) where
+  -- of seats in order, none on an earlier row, those of the row come first ..
+  pub own_first : (seats : List Seat) → Ordered seat_ahead seats → AllByRecursion (NotBefore row) seats → take_while (on_row row) seats ≡ seats_on row seats
+  own_first [] ordered from = refl
+  own_first (s ∷ seats) ordered from =
+      take_while-cons (on_row row) s seats
+      ∙ cond_both (on_row row s) (s ∷ take_while (on_row row) seats) [] (λ l. l ≡ seats_on row (s ∷ seats))
+      (λ on. ap (λ l. s ∷ l) (own_first seats ordered.1 from.1) ∙ sym (kept_yes (on_row row) s seats on))
+      (λ off. sym (kept_none (on_row row) (s ∷ seats) (off, All-weaker (λ t. seat_ahead s t ≡ true) (λ t. on_row row t ≡ false) (λ t. later_off row s t (from.0 off)) seats ordered.0)))
 
-  pub none_before : AllByRecursion (λ s. on_row row s ≡ false) (take low seats)
-  none_before = All-weaker (λ s. seat_ahead s (row_key row 0) ≡ true) (λ s. on_row row s ≡ false) (before_low row) (take low seats) (rank_front seat_ahead seat_chain (row_key row 0) no_seat seats ordered)
+  -- .. and none of those behind them is on it
+  pub own_ends : (seats : List Seat) → Ordered seat_ahead seats → AllByRecursion (NotBefore row) seats → AllByRecursion (λ s. on_row row s ≡ false) (drop (prefix_len (on_row row) seats) seats)
+  own_ends [] ordered from = tt
+  own_ends (s ∷ seats) ordered from =
+      cond_both (on_row row s) (1 + prefix_len (on_row row) seats) 0 (λ n. AllByRecursion (λ t. on_row row t ≡ false) (drop n (s ∷ seats)))
+      (λ on. subst (λ n. AllByRecursion (λ t. on_row row t ≡ false) (drop n (s ∷ seats))) (sym (one-add (prefix_len (on_row row) seats))) (own_ends seats ordered.1 from.1))
+      (λ off. (off, All-weaker (λ t. seat_ahead s t ≡ true) (λ t. on_row row t ≡ false) (λ t. later_off row s t (from.0 off)) seats ordered.0))
 
-  none_after : AllByRecursion (λ s. on_row row s ≡ false) (drop high seats)
-  none_after =
-      all_with (λ s. s.cell.wanted.site ≤ 65535) (λ s. seat_ahead s (row_key row 65536) ≡ false) (λ s. on_row row s ≡ false) (past_high row) (drop high seats)
-      (All-drop (λ s. s.cell.wanted.site ≤ 65535) high seats low_sites) (rank_back seat_ahead seat_chain (row_key row 65536) no_seat seats ordered)
-
-  pub all_among : AllByRecursion (λ s. on_row row s ≡ true) (between low high seats)
-  all_among =
-      all_with (λ s. seat_ahead s (row_key row 0) ≡ false) (λ s. seat_ahead s (row_key row 65536) ≡ true) (λ s. on_row row s ≡ true) (among row) (between low high seats)
-      (All-take (λ s. seat_ahead s (row_key row 0) ≡ false) (high - low) (drop low seats) (rank_back seat_ahead seat_chain (row_key row 0) no_seat seats ordered))
-      (subst (AllByRecursion (λ s. seat_ahead s (row_key row 65536) ≡ true)) (sym (between_is seats low high))
-      (All-drop (λ s. seat_ahead s (row_key row 65536) ≡ true) low (take high seats) (rank_front seat_ahead seat_chain (row_key row 65536) no_seat seats ordered)))
-
-  -- the seats of a row, as a stretch
-  pub seats_stretch : seats_on row seats ≡ between low high seats
-  seats_stretch =
-      let before = kept_none (on_row row) (take low seats) none_before in
-      let middle = kept_all (on_row row) (between low high seats) all_among in
-      let behind = kept_none (on_row row) (drop high seats) none_after in
-      ap (filter (on_row row)) (split_between seats low high start_end)
-      ∙ filter-append (on_row row) (take low seats) (between low high seats ++ drop high seats)
-      ∙ ap (λ l. l ++ filter (on_row row) (between low high seats ++ drop high seats)) before
-      ∙ filter-append (on_row row) (between low high seats) (drop high seats)
-      ∙ ap (λ l. l ++ filter (on_row row) (drop high seats)) middle
-      ∙ ap (λ l. between low high seats ++ l) behind
-      ∙ append-nil (between low high seats)
-
--- seats of cells within their ranges are wanted at places
-pub wanted_places : (seats : List Seat) → AllByRecursion Sited seats → AllByRecursion (λ s. s.cell.wanted.site ≤ 65535) seats
-wanted_places seats sited = All-weaker Sited (λ s. s.cell.wanted.site ≤ 65535) (λ s h. (ranged s.cell h.0).site) seats sited
-
--- a stretch that begins and ends where a search says
-pub spanned : (row : Row) (seats : List Seat) (r : Range ℕ) → Ordered seat_ahead seats → AllByRecursion Sited seats → r.start ≡ start_of row seats → r.end ≡ end_of row seats → Spanned row seats r
-spanned row seats r ordered sited start end =
-    let places = wanted_places seats sited in
-    let first = start_end row seats ordered places in
-    let within = end_within row seats ordered places in
+-- a stretch that begins where a search says, and is as long as the seats from there on are on the row
+pub spanned : (row : Row) (seats : List Seat) (r : Range ℕ) {rest : List Seat} {long : ℕ} → Ordered seat_ahead seats → r.start ≡ rank_of seat_ahead seats (row_key row) → rest ≡ drop r.start seats → long ≡ prefix_len (on_row row) rest → r.end ≡ r.start + long → Spanned row seats r
+spanned row seats r {rest} {long} ordered start rest_is long_is end =
+    let key : Seat = row_key row in
+    let low : ℕ = rank_of seat_ahead seats key in
+    let behind : List Seat = drop low seats in
+    let within = rank_within seat_ahead seat_chain key no_seat seats ordered in
+    let count : long ≡ prefix_len (on_row row) behind = long_is ∙ ap (prefix_len (on_row row)) (rest_is ∙ ap (λ n. drop n seats) start) in
+    let few = prefix_len-le-length (on_row row) behind in
+    let left = length-drop low seats in
+    let none = All-weaker (λ s. seat_ahead s key ≡ true) (λ s. on_row row s ≡ false) (ahead_off row) (take low seats) (rank_front seat_ahead seat_chain key no_seat seats ordered) in
+    let from = All-weaker (λ s. seat_ahead s key ≡ false) (NotBefore row) (not_before row) behind (rank_back seat_ahead seat_chain key no_seat seats ordered) in
+    let wide : r.end - r.start ≡ prefix_len (on_row row) behind = omega arith in
     record {
-      start = start;
-      end = end;
       first = omega arith;
       bound = omega arith;
-      seats_are = (λ i. between (start i) (end i) seats) ∙ sym (seats_stretch row seats ordered places);
+      none_before = subst (λ n. AllByRecursion (λ s. on_row row s ≡ false) (take n seats)) (sym start) none;
+      seats_are =
+          (λ i. take (wide i) (drop (start i) seats))
+          ∙ own_first row behind (ordered_drop seat_ahead low seats ordered) from
+          ∙ sym (kept_parts (on_row row) low seats ∙ ap (λ l. l ++ seats_on row behind) (kept_none (on_row row) (take low seats) none));
     }
 
 -- what is known of the seats of a row

@@ -8,3 +8,4 @@ pub mod Kept
 pub mod Settled
 pub mod Spans
 pub mod State
+pub mod Walks

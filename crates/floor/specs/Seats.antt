@@ -4,8 +4,7 @@
 --   on_row           whether a seat is on a row
 --   seat_ahead       the order of seats: by row order, then by wanted order
 --   seats_on         the seats of a row, in their order; cells_on, sites_on: their cells and their sites
---   start_of, end_of the stretch of a row's seats in an ordered table
---   row_cost         the cost of the sites of a row
+--   across_of        what the site of a seat costs; row_cost: the cost of the sites of a row
 --   joined           the seats with one more, for a cell on a row, in its place
 --   CanTake          that a row can be set with a cell more
 --   settled          the seats once a row is set: only the sites of its own seats are rewritten
@@ -67,16 +66,13 @@ sites_on row seats = map site_of (seats_on row seats)
 abbrev pub Sited : Seat → Type 0
 Sited s = (cell_fault s.cell ≡ None) × (s.site ≤ 65535)
 
--- a seat on a row with this wanted site and number 0; at site 0 no seat of the row is ahead of it, at 65,536 every one is
-abbrev pub row_key : Row → ℕ → Seat
-row_key row site = record { cell = record { number = 0; wanted = record { line = 0; site = site }; width = 0; weight = 0 }; row = row; site = 0 }
+-- what the site of a seat costs
+abbrev pub across_of : (ℕ → ℕ → ℕ → ℕ) → Seat → ℕ
+across_of price s = price s.cell.wanted.site s.cell.weight s.site
 
--- where the seats of a row begin in an ordered table, and where they end
-abbrev pub start_of : Row → List Seat → ℕ
-start_of row seats = rank_of seat_ahead seats (row_key row 0)
-
-abbrev pub end_of : Row → List Seat → ℕ
-end_of row seats = rank_of seat_ahead seats (row_key row 65536)
+-- a seat on a row that no seat of the row is ahead of
+abbrev pub row_key : Row → Seat
+row_key row = record { cell = record { number = 0; wanted = record { line = 0; site = 0 }; width = 0; weight = 0 }; row = row; site = 0 }
 
 -- the cost of the sites of a row
 abbrev pub row_cost : (ℕ → ℕ → ℕ → ℕ) → Row → List Seat → ℕ

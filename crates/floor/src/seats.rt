@@ -11,6 +11,7 @@ mod looks;
 mod setting;
 mod stretch;
 mod trial;
+mod walk;
 
 use crate::Seat;
 use setting::set_ready;

@@ -59,10 +59,6 @@ impl<M: Measure> Floor<M> {
         self.check_cell(&cell)?;
         let choice = self.choose(cell).ok_or(Refusal::NoRoom)?;
         self.seats.seat(&self.measure, choice.row, cell);
-        let seat = self.seats.find(cell.number).unwrap();
-        Ok(Placing {
-            spot: seat.spot(),
-            rise: choice.rise,
-        })
+        Ok(choice.placing())
     }
 }

@@ -6,7 +6,7 @@ ghost use Rattle.floor.specs.State.{rows_of, seats_of};
 use crate::floor::Floor;
 use crate::{Placing, Refusal};
 use measure::Measure;
-use row::{Cell, Spot};
+use row::Cell;
 
 impl<M: Measure> Floor<M> {
     // What `place` would answer for a cell. Nothing changes.
@@ -15,11 +15,6 @@ impl<M: Measure> Floor<M> {
     {
         self.check_cell(&cell)?;
         let choice = self.choose(cell).ok_or(Refusal::NoRoom)?;
-        let line = choice.row.line;
-        let site = self.seats.on(choice.row).try_cell(&self.measure, cell).site;
-        Ok(Placing {
-            spot: Spot { line, site },
-            rise: choice.rise,
-        })
+        Ok(choice.placing())
     }
 }

@@ -1,5 +1,5 @@
 // Making the table of seats, and looking a number up in it.
-ghost use Rattle.std.specs.Prelude.{◌≡◌, [], length, IfOk};
+ghost use Rattle.std.specs.Prelude.{◌≡◌, ◌≤◌, [], length, IfOk};
 ghost use Rattle.floor.specs.Calls.{seat_of, spot};
 ghost use Rattle.floor.specs.Refusals.{stands};
 ghost use Rattle.floor.specs.Seats.{new_seat, seat_ahead};
@@ -63,7 +63,8 @@ impl Seats {
 
     // Where a seat stands in the table, or would stand.
     pub(crate) fn place(&self, seat: &Seat) -> usize
-        ensures { result ≡ rank_of seat_ahead self.now.items.items seat.now }
+        ensures bound { result ≤ length self.now.items.items }
+        ensures finds { result ≡ rank_of seat_ahead self.now.items.items seat.now }
     {
         place_of(self.items.as_slice(), seat)
     }

@@ -1,8 +1,9 @@
 // The seats of one row: where they are in the table, how wide they are, and what their sites cost.
 ghost use Rattle.std.specs.Prelude.{◌≡◌, ◌^◌, ◌≤◌, length};
+ghost use Rattle.std.specs.List.{prefix_len};
 ghost use Rattle.row.specs.Records.{widths};
 ghost use Rattle.floor.specs.Refusals.{has_sites};
-ghost use Rattle.floor.specs.Seats.{cells_on, row_key, row_cost, seats_on};
+ghost use Rattle.floor.specs.Seats.{across_of, cells_on, on_row, row_key, row_cost, seats_on, Sited};
 ghost use Rattle.floor.specs.Spans.{Spanned};
 
 use crate::Seat;
@@ -21,11 +22,11 @@ pub(crate) struct RowSeats<'a> {
     ghost few: { length seats.now ≤ 1024 },
 }
 
-// A key for the seats of a row: a seat that is wanted at this site. It is a whole seat, since the one search `place_of` compares records of one type.
-fn key(row: Row, site: u32) -> Seat
-    ensures { result ≡ row_key row site }
+// A key for the seats of a row: none of them is ahead of it. It is a whole seat, since the one search `place_of` compares records of one type.
+fn key(row: Row) -> Seat
+    ensures { result ≡ row_key row }
 {
-    let wanted = Spot { line: 0, site };
+    let wanted = Spot { line: 0, site: 0 };
     let cell = Cell {
         number: 0,
         wanted,
@@ -35,25 +36,40 @@ fn key(row: Row, site: u32) -> Seat
     Seat::new(row, cell)
 }
 
+impl Seat {
+    // What the site of a seat costs.
+    fn site_cost<M: Measure>(&self, measure: &M) -> u64
+        requires { Sited self.now }
+        ensures { result ≡ across_of (M.price measure.now) self.now }
+    {
+        let Seat { cell, row: _, site } = self;
+        measure.price_at(cell.wanted.site as u16, cell.weight as u16, *site as u16)
+    }
+
+    // Whether a seat is on a row.
+    fn is_on(&self, row: &Row) -> bool
+        ensures { result ≡ on_row row.now self.now }
+    {
+        self.row.line == row.line && self.row.left == row.left
+    }
+}
+
+// How many seats, from the first on, are on a row. They are counted one by one: a row has few of them, of a table that may have many.
+pub(super) fn count_on(row: &Row, seats: &[Seat]) -> usize
+    ensures value { result ≡ prefix_len (on_row row.now) seats.now }
+    ensures bound { result ≤ length seats.now }
+{
+    seats.iter().take_while(|seat| seat.is_on(row)).count()
+}
+
 impl Seats {
     // The stretch of a row's seats in the table.
     pub(crate) fn stretch_of(&self, row: Row) -> Range<usize>
         ensures { Spanned row self.now.items.items result }
     {
-        self.place(&key(row, 0))..self.place(&key(row, 65_536))
-    }
-
-    // A row with the seats on it.
-    pub(crate) fn on(&self, row: Row) -> RowSeats<'_>
-        ensures table { result.table.now ≡ self.now }
-        ensures row { result.row ≡ row }
-    {
-        let stretch = self.stretch_of(row);
-        RowSeats {
-            table: self,
-            row,
-            seats: &self.items[stretch.start..stretch.end],
-        }
+        let start = self.place(&key(row));
+        let (_, ahead) = self.items.split_at(start);
+        start..start + count_on(&row, ahead)
     }
 }
 
@@ -65,7 +81,7 @@ impl RowSeats<'_> {
     {
         self.seats
             .iter()
-            .map(|seat| measure.cost(seat.cell.wanted.site, seat.cell.weight, seat.site))
+            .map(|seat| seat.site_cost(measure))
             .sum()
     }
 

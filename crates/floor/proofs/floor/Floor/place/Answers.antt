@@ -1,12 +1,11 @@
-use Rattle.std.proofs.Common.{IsSome, ap, ◌∙◌, sym, subst}
-use Rattle.floor.specs.Calls.{seat_of}
+use Rattle.std.proofs.Common.{Ok, ap, ◌∙◌, sym, subst}
 use Rattle.floor.specs.Formed.{formed}
 use Rattle.floor.specs.Seats.{floor_cost}
 use Rattle.floor.specs.Settled.{Settled}
 use Rattle.floor.proofs.Best.{place_least}
 use Rattle.floor.proofs.Dearer.{place_dearer}
 use Rattle.floor.proofs.Keeping.{place_settled}
-use Rattle.floor.proofs.Placed.{Chose, chose, answers, seats_then, seated_found}
+use Rattle.floor.proofs.Placed.{Chose, chose, placing_is, seats_then}
 use Rattle.floor.proofs.floor.Floor.place.Given as given
 use Rattle.floor.proofs.floor.Floor.place.Goals as goal
 
@@ -22,13 +21,8 @@ invariant_of-self g c =
     let known = chose (g.met.M.Measure.fair self.measure) self.rows.items self.seats.items.items c.args.cell self.well c.in_ok-check_cell.ensures c.in_ok-choice.ensures.value c.choose.ensures in
     record { room = self.room; well = ap (formed self.rows.items) c.seat.ensures ∙ known.well }
 
-pub unwrap-seat-requires : goal.unwrap-seat-requires
-unwrap-seat-requires g c =
-    let self = c.args.self.now in
-    subst IsSome (sym (c.find.ensures ∙ ap (seat_of c.args.cell.number) c.seat.ensures)) (seated_found (g.M.Measure.price self.measure) self.seats.items.items c.args.cell c.in_ok-choice.choice.row)
-
 -- what is known at the return
-known : (g : given.Over) (c : goal.After-spot g) → let self = c.args.self.now in Chose (g.M.Measure.price self.measure) self.rows.items self.seats.items.items c.args.cell c.in_ok-choice.choice
+known : (g : given.Over) (c : goal.After-placing g) → let self = c.args.self.now in Chose (g.M.Measure.price self.measure) self.rows.items self.seats.items.items c.args.cell c.in_ok-choice.choice
 known g c =
     let self = c.args.self.now in
     chose (g.met.M.Measure.fair self.measure) self.rows.items self.seats.items.items c.args.cell self.well c.in_ok-check_cell.ensures c.in_ok-choice.ensures.value c.choose.ensures
@@ -36,7 +30,7 @@ known g c =
 pub returns-clause-answer : goal.returns-clause-answer
 returns-clause-answer g c =
     let self = c.args.self.now in
-    answers self.rows.items self.seats.items.items c.seat.new.self.items.items c.args.cell c.in_ok-choice.choice c.unwrap-seat.result (known g c) c.seat.ensures (sym c.find.ensures ∙ c.unwrap-seat.ensures) c.spot.ensures
+    ap Ok c.placing.ensures ∙ placing_is self.rows.items self.seats.items.items c.args.cell c.in_ok-choice.choice (known g c)
 
 pub returns-clause-seats : goal.returns-clause-seats
 returns-clause-seats g c =

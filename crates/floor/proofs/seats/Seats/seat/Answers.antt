@@ -17,7 +17,7 @@ invariant_of-self g c =
     let room = self.room.1 in
     let ok : is_ok c.insert.result ≡ true = c.insert.ensures.succeeds (omega arith) in
     let longer : vec_len c.insert.new.self ≡ vec_len self.items + 1 = c.insert.ensures.len ∙ cond-true (is_ok c.insert.result) _ _ ok in
-    let at = c.place-at.ensures ∙ ap (rank_of seat_ahead seats) c.new-seat.ensures in
+    let at = c.place-at.ensures.finds ∙ ap (rank_of seat_ahead seats) c.new-seat.ensures in
     let is : vec_items c.insert.new.self ≡ joined row cell seats =
     c.insert.ensures.items ∙ cond-true (is_ok c.insert.result) _ _ ok ∙ (λ i. insert seats (at i) (c.new-seat.ensures i)) in
     record {

@@ -3,7 +3,7 @@ use Rattle.floor.specs.Calls.{seated}
 use Rattle.floor.specs.Seats.{row_cost}
 use Rattle.floor.proofs.Costs.{cost_small}
 use Rattle.floor.proofs.Rising.{seated_bound}
-use Rattle.floor.proofs.choice.Offer.rise_on.Goals as goal
+use Rattle.floor.proofs.choice.Offer.choice.Goals as goal
 
 pub overflow_add-result : goal.overflow_add-result
 overflow_add-result g c =
@@ -11,7 +11,7 @@ overflow_add-result g c =
     let own = c.args.own.now in
     let f = g.M.Measure.price self.measure.now in
     let fair = g.met.M.Measure.fair self.measure.now in
-    let after = ap (λ t. t.cost) c.try_cell-after.ensures ∙ ap (λ t. row_cost f own.row (seated f t.items.items self.cell own.row)) c.requires.table in
+    let after = ap (λ t. t.cost) c.try_cell-trial.ensures ∙ ap (λ t. row_cost f own.row (seated f t.items.items self.cell own.row)) c.requires.table in
     let bound = seated_bound fair self.seats.now.items.items own.row self.cell c.requires.ready in
     let small = cost_small fair self.cell.wanted.line self.cell.weight own.row.line in
     let line = c.cost-line.ensures in
