@@ -14,7 +14,7 @@ WHY = {
     15: "the job ends too early",
     16: "the kind is unknown",
     17: "the bit map lacks a required bit or has one that its kind lacks",
-    18: "a name of length 0 or with a byte outside 21 to 7E",
+    18: "a name of length 0 or with a byte outside 0x21 to 0x7E",
     19: "the first byte names no measure",
 }
 

@@ -22,7 +22,7 @@ reason TooLong = codes "the job is longer than 65535 bytes"
 reason EndsEarly = codes "the job ends too early"
 reason UnknownKind = codes "the kind is unknown"
 reason WrongMap = codes "the bit map lacks a required bit or has one that its kind lacks"
-reason BadName = codes "a name of length 0 or with a byte outside 21 to 7E"
+reason BadName = codes "a name of length 0 or with a byte outside 0x21 to 0x7E"
 reason UnknownMeasure = codes "the first byte names no measure"
 
 abbrev pub fault_text : Fault → List ℕ

@@ -4,3 +4,4 @@ pub mod Opening
 pub mod Parts
 pub mod Reading
 pub mod Reads
+pub mod Whole

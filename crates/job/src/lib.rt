@@ -9,9 +9,11 @@ mod named;
 mod opening;
 mod reader;
 mod record;
+mod whole;
 
 pub use measure::MeasureName;
 pub use named::Name;
 pub use opening::Job;
 pub use reader::Reader;
 pub use record::{Cause, Fault, Record};
+pub use whole::read_through;

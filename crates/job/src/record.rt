@@ -56,7 +56,7 @@ impl fmt::Display for Cause {
             Cause::EndsEarly => "the job ends too early",
             Cause::UnknownKind => "the kind is unknown",
             Cause::WrongMap => "the bit map lacks a required bit or has one that its kind lacks",
-            Cause::BadName => "a name of length 0 or with a byte outside 21 to 7E",
+            Cause::BadName => "a name of length 0 or with a byte outside 0x21 to 0x7E",
             Cause::UnknownMeasure => "the first byte names no measure",
         })
     }

@@ -1,22 +1,18 @@
 -- One turn of a listing: a record's line and those after it, or the last line.
-use Rattle.std.proofs.Common.{◌≡◌, ℕ, zero, suc, ◌-◌, ◌<◌, List, ◌++◌, length, Some, Ok, Option, Result, sym, ap, ◌∙◌, append_assoc, arith}
+use Rattle.std.proofs.Common.{◌≡◌, ℕ, zero, suc, List, ◌++◌, Some, Ok, Option, Result, sym, ap, ◌∙◌, append_assoc, arith}
 use Rattle.job.specs.Format.{Content}
 use Rattle.job.specs.Reading.{Standing, Passed, next_answer, next_standing}
 use Rattle.job.specs.declared.record.Fault.{Fault}
+use Rattle.job.proofs.Turns.{Enough, enough_after}
 use Rattle.listing.specs.Lines.{record_line, with_line, record_lines}
-
--- more turns than there are bytes left
-abbrev pub Enough : ℕ → Standing → Type 0
-Enough most s = length s.job - s.place < most
 
 -- a record's line is added, and the lines from where the reader stands after it are still to come
 pub record_turn : (most i : ℕ) (s t : Standing) (c : Content) (before out all : List ℕ) → Enough most s → Ok (Some c) ≡ next_answer s → t ≡ next_standing s → Passed s c t → i ≡ s.index → out ≡ before ++ record_line i c → before ++ record_lines most s ≡ all → (fewer : ℕ) × Enough fewer t × (out ++ record_lines fewer t ≡ all)
 record_turn zero i s t c before out all enough answer after passed index line whole = absurd (omega arith)
 record_turn (suc fewer) i s t c before out all enough answer after passed index line whole =
-    let long : length t.job ≡ length s.job = ap length passed.same in
     let here = record_line s.index c in (
       fewer,
-      omega (arith, passed.forward, passed.within),
+      enough_after enough passed,
       ap (λ lines. lines ++ record_lines fewer t) (line ∙ ap (λ k. before ++ record_line k c) index)
           ∙ append_assoc before here (record_lines fewer t)
           ∙ ap (λ u. before ++ (here ++ record_lines fewer u)) after

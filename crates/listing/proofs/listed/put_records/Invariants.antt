@@ -1,7 +1,7 @@
 use Rattle.std.proofs.Common.{◌≡◌, ℕ, ◌+◌, ◌-◌, ◌++◌, length, vec_items}
 use Rattle.job.specs.Reading.{standing}
 use Rattle.listing.specs.Lines.{record_lines}
-use Rattle.listing.proofs.Turns.{Enough}
+use Rattle.job.proofs.Turns.{Enough}
 use Rattle.listing.proofs.listed.put_records.Given as goal
 
 -- what is there and what is to come are all the lines
