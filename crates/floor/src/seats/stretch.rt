@@ -79,10 +79,7 @@ impl RowSeats<'_> {
         ensures value { result ≡ row_cost (M.price measure.now) self.now.row self.now.table.now.items.items }
         ensures bound { result ≤ 2 ^ 52 }
     {
-        self.seats
-            .iter()
-            .map(|seat| seat.site_cost(measure))
-            .sum()
+        self.seats.iter().map(|seat| seat.site_cost(measure)).sum()
     }
 
     // How many sites the cells of the row cover.
