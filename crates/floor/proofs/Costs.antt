@@ -11,7 +11,7 @@ use Rattle.row.proofs.Ranges.{ranged}
 use Rattle.row.specs.Sites.{sites_cost}
 use Rattle.row.specs.declared.Row.{Row}
 use Rattle.floor.specs.Formed.{formed}
-use Rattle.floor.specs.Seats.{Sited, across_of, cell_of, site_of, floor_cost}
+use Rattle.floor.specs.Seats.{Sited, site_cost, cell_of, site_of, floor_cost}
 use Rattle.floor.specs.declared.Seat.{Seat}
 use Rattle.floor.proofs.Defaults.{no_seat}
 use Rattle.floor.proofs.Known.{SeatKnown, known_slice}
@@ -33,22 +33,22 @@ cost_small {f} fair w e p = by_test (in_range w e p) refl
     by_test false is = omega arith
 
 -- the sites of seats at places cost little ..
-pub across_bound : {f : ℕ → ℕ → ℕ → ℕ} → Fair f → (seats : List Seat) → AllByRecursion Sited seats → sum_by (across_of f) seats ≤ 2 ^ 42 * length seats
-across_bound fair [] sited = omega arith
-across_bound {f} fair (s ∷ seats) sited =
+pub sites_bound : {f : ℕ → ℕ → ℕ → ℕ} → Fair f → (seats : List Seat) → AllByRecursion Sited seats → sum_by (site_cost f) seats ≤ 2 ^ 42 * length seats
+sites_bound fair [] sited = omega arith
+sites_bound {f} fair (s ∷ seats) sited =
     let own = ranged s.cell sited.0.0 in
     let place = sited.0.1 in
     let one = fair.bounded s.cell.wanted.site s.cell.weight s.site (omega arith) in
-    let rest = across_bound fair seats sited.1 in
-    let more = sum_by-cons (across_of f) s seats in
+    let rest = sites_bound fair seats sited.1 in
+    let more = sum_by-cons (site_cost f) s seats in
     omega arith
 
 -- .. and are what a row's sites cost, added up
-pub across_sum : (f : ℕ → ℕ → ℕ → ℕ) (seats : List Seat) → sum_by (across_of f) seats ≡ sites_cost f (map cell_of seats) (map site_of seats)
-across_sum f [] = refl
-across_sum f (s ∷ seats) =
-    let rest = across_sum f seats in
-    let more = sum_by-cons (across_of f) s seats in
+pub sites_sum : (f : ℕ → ℕ → ℕ → ℕ) (seats : List Seat) → sum_by (site_cost f) seats ≡ sites_cost f (map cell_of seats) (map site_of seats)
+sites_sum f [] = refl
+sites_sum f (s ∷ seats) =
+    let rest = sites_sum f seats in
+    let more = sum_by-cons (site_cost f) s seats in
     omega arith
 
 -- what one seat of a floor adds to its cost, as a measure answers it

@@ -43,11 +43,7 @@ module _ {X : Type 0} (p : X → Bool) where
   pub kept_no : (x : X) (xs : List X) → p x ≡ false → filter p (x ∷ xs) ≡ filter p xs
   kept_no x xs e = cond-false (p x) (x ∷ filter p xs) (filter p xs) e
 
-  -- all pass, and none does
-  pub kept_all : (xs : List X) → AllByRecursion (λ x. p x ≡ true) xs → filter p xs ≡ xs
-  kept_all [] h = refl
-  kept_all (x ∷ xs) h = kept_yes x xs h.0 ∙ ap (λ l. x ∷ l) (kept_all xs h.1)
-
+  -- none passes
   pub kept_none : (xs : List X) → AllByRecursion (λ x. p x ≡ false) xs → filter p xs ≡ []
   kept_none [] h = refl
   kept_none (x ∷ xs) h = kept_no x xs h.0 ∙ kept_none xs h.1

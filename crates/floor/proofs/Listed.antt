@@ -56,8 +56,8 @@ pub same_share : (a b : Row) → RangedRow a → RangedRow b → same_row a b �
 same_share a b ra rb e = let x = ra.some in let y = rb.some in grind arith
 
 -- sharing goes both ways
-share_turn : (a b : Row) → share a b ≡ true → share b a ≡ true
-share_turn a b e = grind arith
+pub share_turn : (a b : Row) → share a b ≡ share b a
+share_turn a b = grind arith
 
 -- standing rows that share a site are one row
 pub apart_one : (rows : List Row) (a b : Row) → Pairs (λ c d. not (share c d) ≡ true) rows → share a b ≡ true → Standing rows a → Standing rows b → a ≡ b
@@ -74,7 +74,7 @@ apart_one (r ∷ rows) a b apart shared ea eb =
     in_b)
     (λ there_a.
     ⊎_elim
-    (λ here_b. absurd (both_ways (share b a) (subst (λ c. share c a ≡ false) (row_is b r here_b) (not-true (share r a) (standing_all Off rows a apart.0 there_a))) (share_turn a b shared)))
+    (λ here_b. absurd (both_ways (share b a) (subst (λ c. share c a ≡ false) (row_is b r here_b) (not-true (share r a) (standing_all Off rows a apart.0 there_a))) (sym (share_turn a b) ∙ shared)))
     (λ there_b. apart_one rows a b apart.1 shared there_a there_b)
     in_b)
     in_a

@@ -59,12 +59,9 @@ module _ (row : Row) where
   resited_ordered xs seats ordered =
       pairs_ordered seat_ahead (resited row xs seats) (resited_pairs (λ s t. seat_ahead s t ≡ true) (λ s t x h. h) (λ s t x h. h) xs seats (ordered_pairs seat_ahead seats ordered))
 
-  -- so cells, rows and their number stay
+  -- so cells and their number stay
   pub resited_cells : (xs : List ℕ) (seats : List Seat) → map (λ s. s.cell) (resited row xs seats) ≡ map (λ s. s.cell) seats
   resited_cells = resited_map (λ s. s.cell) (λ s x. refl)
-
-  pub resited_rows : (xs : List ℕ) (seats : List Seat) → map (λ s. s.row) (resited row xs seats) ≡ map (λ s. s.row) seats
-  resited_rows = resited_map (λ s. s.row) (λ s x. refl)
 
   pub resited_length : (xs : List ℕ) (seats : List Seat) → length (resited row xs seats) ≡ length seats
   resited_length xs seats = sym (length-map (resited row xs seats) (λ s. s.cell)) ∙ (ap length (resited_cells xs seats) ∙ length-map seats (λ s. s.cell))

@@ -1,7 +1,7 @@
 -- What every floor keeps, once a row is added.
 use Rattle.std.proofs.Common.{◌≡◌, ◌<◌, true, false, not, ◌&&◌, ltb, List, [], ◌∷◌, ℕ, length, is_some, None, ap, ◌∙◌, subst, sym, arith}
 use Rattle.std.proofs.ByRecursion.{All-weaker}
-use Rattle.std.proofs.lemmas.Bool.{and_parts, and_from, not-true, ltb-true}
+use Rattle.std.proofs.lemmas.Bool.{and_parts, and_from, ltb-true}
 use Rattle.std.specs.Option.{option_map}
 use Rattle.std.specs.List.{AllByRecursion, insert, list_all, list_any}
 use Rattle.row.specs.Records.{check, row_fault, row_ahead}
@@ -16,15 +16,13 @@ use Rattle.floor.specs.Refusals.{add_refusal}
 use Rattle.floor.specs.Rows.{same_row, share}
 use Rattle.floor.specs.declared.Refusal.TheVariants.{OutOfRange, RowsFull, RowShares}
 use Rattle.floor.specs.declared.Seat.{Seat}
+use Rattle.floor.proofs.Listed.{share_turn}
 use Rattle.floor.proofs.Orders.{row_chain, row_total}
 use Rattle.floor.proofs.Tests.{nothing_some, every_all, all_every, pairs_all, all_pairs, pairs_ordered, ordered_pairs, none_found, none_any, any_put}
 
 -- rows with one line and one left share a site
 pub shared_same : (a b : Row) → RangedRow a → RangedRow b → share a b ≡ false → same_row b a ≡ false
 shared_same a b ra rb apart = let x = ra.some in let y = rb.some in grind arith
-
-share_turn : (a b : Row) → share a b ≡ false → share b a ≡ false
-share_turn a b e = grind arith
 
 module _ (rows : List Row) (row : Row) (none : add_refusal rows row ≡ None) where
   checks : (option_map OutOfRange (row_fault row) ≡ None) × (check (ltb (length rows) 64) RowsFull (check (not (list_any (share row) rows)) RowShares None) ≡ None)
@@ -69,7 +67,7 @@ module _ (rows : List Row) (row : Row) (none : add_refusal rows row ≡ None) wh
         let new : not (is_some (row_fault row)) ≡ true = nothing_some (row_fault row) passes_new in
         let order = put_ordered row_ahead row row_chain rows (none_same rows all_ranged apart_new) rows_ordered in
         let pairs = pairs_all (λ a b. not (share a b)) rows pair_parts.1 in
-        let turn : (a b : Row) → not (share a b) ≡ true → not (share b a) ≡ true = λ a b e. ap not (share_turn a b (not-true (share a b) e)) in
+        let turn : (a b : Row) → not (share a b) ≡ true → not (share b a) ≡ true = λ a b e. ap not (sym (share_turn a b)) ∙ e in
         let own = All-weaker (λ r. share row r ≡ false) (λ r. not (share row r) ≡ true) (λ r. not_share row r) rows apart_new in
         and_from _ _
         (all_every (λ r. not (is_some (row_fault r))) (put_in row_ahead row rows) (put_all row_ahead row (λ r. not (is_some (row_fault r)) ≡ true) rows new all_ranged))

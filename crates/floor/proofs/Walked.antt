@@ -44,8 +44,7 @@ steps_on seats (row ∷ rows) ahead order ordered stand same =
     let on : AllByRecursion (λ s. on_row row s ≡ true) (take n ahead) = subst (AllByRecursion (λ s. on_row row s ≡ true)) (sym own) (kept_by_passes (on_row row) ahead) in
     let kept : (r : Row) → row_ahead row r ≡ true → seats_on r ahead ≡ seats_on r seats → seats_on r (drop n ahead) ≡ seats_on r seats =
     λ r first is.
-        sym (kept_parts (on_row r) n ahead ∙ ap (λ l. l ++ seats_on r (drop n ahead)) (kept_none (on_row r) (take n ahead) (All-weaker (λ s. on_row row s ≡ true) (λ s. on_row r s ≡ false) (λ s. on_off row r s first) (take n ahead) on))) ∙ is in
-    (
+    sym (kept_parts (on_row r) n ahead ∙ ap (λ l. l ++ seats_on r (drop n ahead)) (kept_none (on_row r) (take n ahead) (All-weaker (λ s. on_row row s ≡ true) (λ s. on_row r s ≡ false) (λ s. on_off row r s first) (take n ahead) on))) ∙ is in (
       own ∙ same.0,
       steps_on seats rows (drop n ahead) order.1 (ordered_drop seat_ahead n ahead ordered)
           (all_with (λ s. Standing (row ∷ rows) s.row) (λ s. on_row row s ≡ false) (λ s. Standing rows s.row) (other_stands row rows) (drop n ahead)

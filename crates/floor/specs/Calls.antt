@@ -56,11 +56,6 @@ abbrev pub better : (Row → ℕ) → Row → Option Row → Option Row
 better rises row None = Some row
 better rises row (Some other) = cond (nat_le (rises row) (rises other)) (Some row) (Some other)
 
--- the better of what is chosen of some rows and of the rows after them
-abbrev pub pick : (Row → ℕ) → Option Row → Option Row → Option Row
-pick rises None later = later
-pick rises (Some row) later = better rises row later
-
 -- the row of least rise among those that have sites; of equal ones the first
 abbrev pub chosen : (ℕ → ℕ → ℕ → ℕ) → List Seat → Cell → List Row → Option Row
 chosen price seats cell [] = None

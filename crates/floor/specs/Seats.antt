@@ -4,7 +4,7 @@
 --   on_row           whether a seat is on a row
 --   seat_ahead       the order of seats: by row order, then by wanted order
 --   seats_on         the seats of a row, in their order; cells_on, sites_on: their cells and their sites
---   across_of        what the site of a seat costs; row_cost: the cost of the sites of a row
+--   site_cost        what the site of a seat costs; row_cost: the cost of the sites of a row
 --   joined           the seats with one more, for a cell on a row, in its place
 --   CanTake          that a row can be set with a cell more
 --   settled          the seats once a row is set: only the sites of its own seats are rewritten
@@ -67,8 +67,8 @@ abbrev pub Sited : Seat → Type 0
 Sited s = (cell_fault s.cell ≡ None) × (s.site ≤ 65535)
 
 -- what the site of a seat costs
-abbrev pub across_of : (ℕ → ℕ → ℕ → ℕ) → Seat → ℕ
-across_of price s = price s.cell.wanted.site s.cell.weight s.site
+abbrev pub site_cost : (ℕ → ℕ → ℕ → ℕ) → Seat → ℕ
+site_cost price s = price s.cell.wanted.site s.cell.weight s.site
 
 -- a seat on a row that no seat of the row is ahead of
 abbrev pub row_key : Row → Seat

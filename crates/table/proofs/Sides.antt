@@ -1,5 +1,5 @@
 -- The two sides of a key's place in an ordered table.
-use Rattle.std.proofs.Common.{◌≡◌, ℕ, ◌+◌, ◌<◌, ◌≤◌, Bool, true, false, cond, List, [], ◌∷◌, length, get_or, take, drop, refl, ap, ◌∙◌, ⊎_elim, arith}
+use Rattle.std.proofs.Common.{◌≡◌, ℕ, ◌+◌, ◌<◌, ◌≤◌, Bool, true, false, List, length, get_or, take, drop, ap, ◌∙◌, ⊎_elim, arith}
 use Rattle.std.proofs.ByRecursion.{All-from_get_or}
 use Rattle.std.proofs.lemmas.List.{get_or-take, get_or-drop, length-take, length-drop}
 use Rattle.std.proofs.lemmas.List.Sums.{prefix_len-le-length}
@@ -37,13 +37,3 @@ module _ {X : Type 0} (ahead : X → X → Bool) (chain : (a b c : X) → ahead 
       let bound = rank_within in
       All-from_get_or (λ x. ahead x key ≡ false) (drop r xs) d
       (λ i within. ap (λ x. ahead x key) (get_or-drop r xs i d) ∙ one_back (r + i) (omega arith) (omega arith))
-
--- a key that is behind whatever another key is behind has no earlier place
-leading_by : (a b : Bool) (m n : ℕ) → (a ≡ true → b ≡ true) → m ≤ n → cond a (1 + m) 0 ≤ cond b (1 + n) 0
-leading_by true true m n goes less = omega arith
-leading_by false b m n goes less = omega arith
-leading_by true false m n goes less = let never : ◌≡◌ {A = ℕ} 0 1 = (let e = goes refl in cc) in absurd (omega arith)
-
-pub rank_mono : {X : Type 0} (ahead : X → X → Bool) (k l : X) → ((x : X) → ahead x k ≡ true → ahead x l ≡ true) → (xs : List X) → rank_of ahead xs k ≤ rank_of ahead xs l
-rank_mono ahead k l goes [] = omega arith
-rank_mono ahead k l goes (x ∷ xs) = leading_by (ahead x k) (ahead x l) (rank_of ahead xs k) (rank_of ahead xs l) (goes x) (rank_mono ahead k l goes xs)

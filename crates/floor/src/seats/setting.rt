@@ -72,7 +72,7 @@ impl Seats {
         ensures { self.new.items.items ≡ settled (M.price measure.now) row self.old.items.items }
     {
         let stretch = self.stretch_of(row);
-        // No heap here either.
+        // No heap here: the room is on the stack, as where a cell is tried. Most rows need only a little, which is sooner made.
         if stretch.end - stretch.start <= FEW_CELLS {
             self.settle_in(
                 measure,

@@ -3,7 +3,7 @@ ghost use Rattle.std.specs.Prelude.{◌≡◌, ◌^◌, ◌≤◌, length};
 ghost use Rattle.std.specs.List.{prefix_len};
 ghost use Rattle.row.specs.Records.{widths};
 ghost use Rattle.floor.specs.Refusals.{has_sites};
-ghost use Rattle.floor.specs.Seats.{across_of, cells_on, on_row, row_key, row_cost, seats_on, Sited};
+ghost use Rattle.floor.specs.Seats.{site_cost, cells_on, on_row, row_key, row_cost, seats_on, Sited};
 ghost use Rattle.floor.specs.Spans.{Spanned};
 
 use crate::Seat;
@@ -12,7 +12,7 @@ use measure::Measure;
 use row::{Cell, Row, Spot};
 use std::ops::Range;
 
-// A row with the seats on it, in wanted order. They are looked up once, for all that is asked of them.
+// A row with the seats on it, in wanted order, as a walk gives them: for all that is asked of a row that may take a cell.
 #[derive(Drop)]
 pub(crate) struct RowSeats<'a> {
     pub(crate) table: &'a Seats,
@@ -40,7 +40,7 @@ impl Seat {
     // What the site of a seat costs.
     fn site_cost<M: Measure>(&self, measure: &M) -> u64
         requires { Sited self.now }
-        ensures { result ≡ across_of (M.price measure.now) self.now }
+        ensures { result ≡ site_cost (M.price measure.now) self.now }
     {
         let Seat { cell, row: _, site } = self;
         measure.price_at(cell.wanted.site as u16, cell.weight as u16, *site as u16)
@@ -79,10 +79,7 @@ impl RowSeats<'_> {
         ensures value { result ≡ row_cost (M.price measure.now) self.now.row self.now.table.now.items.items }
         ensures bound { result ≤ 2 ^ 52 }
     {
-        self.seats
-            .iter()
-            .map(|seat| seat.site_cost(measure))
-            .sum()
+        self.seats.iter().map(|seat| seat.site_cost(measure)).sum()
     }
 
     // How many sites the cells of the row cover.
