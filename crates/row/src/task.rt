@@ -97,7 +97,8 @@ impl<'a, M: Measure> Task<'a, M> {
         }
     }
 
-    // The same where the rise at `high` was `above`. It is sought from there in steps, and by halving where a step would lead too far.
+    // The same where the rise at `high` was `above`, which guides the search and decides nothing. It goes from there in steps, and by
+    // halving where a step would lead too far.
     #[inline(never)]
     fn best_before(&self, low: u32, high: u32, above: i64) -> u32
         requires some { low ≤ high }
