@@ -1,5 +1,5 @@
 -- The least of some places that passes a test, or the last of them.
-use Rattle.std.proofs.Common.{◌≡◌, ℕ, zero, suc, ◌+◌, ◌<◌, ◌≤◌, Bool, true, false, cond, sym, refl, ap, ◌∙◌, ⊎_elim, arith}
+use Rattle.std.proofs.Common.{◌≡◌, ℕ, zero, suc, ◌+◌, ◌-◌, ◌<◌, ◌≤◌, Bool, true, false, cond, sym, refl, ap, ◌∙◌, ⊎_elim, arith}
 use Rattle.std.proofs.lemmas.Bool.{cases_lt, cases_order, both_ways}
 use Rattle.row.specs.Sites.{least}
 
@@ -57,3 +57,18 @@ module _ {test : ℕ → Bool} where
   -- where a place fails and what passes goes on to pass, it is further on
   pub after : (low high m z : ℕ) → IsLeast test low high z → m < high → test m ≡ false → ((t u : ℕ) → low ≤ t → t ≤ u → u < high → test t ≡ true → test u ≡ true) → m < z
   after low high m z a below fails goes_on = ⊎_elim (λ h. h) (λ before. absurd (both_ways (test m) fails (goes_on z m a.from before below (a.passes (omega arith))))) (cases_lt m z)
+
+module _ (test : ℕ → Bool) where
+  -- where the last place but one passes, it is the least up to there
+  pub least_below : (low high : ℕ) → low < high → test (high - 1) ≡ true → least test low (high - 1 - low) ≡ least test low (high - low)
+  least_below low high some passes =
+      let whole : IsLeast test low high (least test low (high - low)) = least_is low (high - low) high (omega arith) in
+      let upto = not_after low high (high - 1) _ whole (omega arith) passes in
+      least_unique low (high - 1) _ _ (least_is low (high - 1 - low) (high - 1) (omega arith)) (narrowed low high low (high - 1) _ whole (omega arith) whole.from upto (omega arith))
+
+  -- where that one fails and what passes goes on to pass, it is the last
+  pub least_last : (low high : ℕ) → low < high → test (high - 1) ≡ false → ((t u : ℕ) → low ≤ t → t ≤ u → u < high → test t ≡ true → test u ≡ true) → high ≡ least test low (high - low)
+  least_last low high some fails goes_on =
+      let whole : IsLeast test low high (least test low (high - low)) = least_is low (high - low) high (omega arith) in
+      let further = after low high (high - 1) _ whole (omega arith) fails goes_on in
+      omega (arith, whole.upto)

@@ -1,8 +1,9 @@
 -- What one step of a cell that is within its ranges costs, under a fair measure.
-use Rattle.std.proofs.Common.{◌≡◌, ℕ, ◌+◌, ◌^◌, ◌<◌, ◌≤◌, true, List, [], ◌∷◌, length, get_or, drop, pos, ◌+ℤ◌, neg_ℤ, ◌≤ℤ◌, arith}
+use Rattle.std.proofs.Common.{◌≡◌, ℕ, ◌+◌, ◌^◌, ◌<◌, ◌≤◌, Bool, true, List, [], ◌∷◌, length, get_or, drop, ℤ, pos, ◌+ℤ◌, neg_ℤ, ◌≤ℤ◌, sym, ap, ◌∙◌, arith, w64, to_z, of_z}
+use lib.Signed.{le_z, mag}
 use Rattle.std.proofs.ByRecursion.{All-get_or}
 use Rattle.std.proofs.lemmas.List.{at_drop_more}
-use Rattle.std.proofs.lemmas.Int.{ints}
+use Rattle.std.proofs.lemmas.Int.{ints, to_z-of_z}
 use Rattle.std.specs.List.{AllByRecursion}
 use Rattle.measure.specs.Costs.{Fair, InRange, step_of}
 use Rattle.row.specs.Records.{widths}
@@ -68,3 +69,9 @@ rise_mono {f} fair (c ∷ cs) t u passed up inside =
 -- so what climbs goes on to climb
 pub climbs_on : {f : ℕ → ℕ → ℕ → ℕ} → Fair f → (cs : List Cell) (t u : ℕ) → AllByRecursion Passes cs → t ≤ u → u + widths cs ≤ 65535 → climbs f cs t ≡ true → climbs f cs u ≡ true
 climbs_on fair cs t u passed up inside at_t = let more = rise_mono fair cs t u passed up inside in grind (arith, ints)
+
+-- a test of a signed value that was returned is a test of the value
+pub tested : (r z : ℤ) (b : Bool) → mag r < 9223372036854775808 → r ≡ z → le_z (pos 0) (to_z w64 (of_z w64 r)) ≡ b → le_z (pos 0) z ≡ b
+tested r z b fits is test =
+    let same : to_z w64 (of_z w64 r) ≡ r = to_z-of_z w64 r (record { sfits = fits }) in
+    sym (ap (le_z (pos 0)) (same ∙ is)) ∙ test

@@ -16,6 +16,9 @@ pub const MOST_CELLS: usize = 1_024;
 // How many cells most rows have at most. What is done for a row on the stack is sooner done where room for so many is enough.
 pub const FEW_CELLS: usize = 32;
 
+// How many cells nearly all rows have at most: room for so many is what comes between.
+pub const MANY_CELLS: usize = 256;
+
 // A site on a line.
 #[derive(Clone, Copy, PartialEq, Eq, Debug, Default)]
 pub struct Spot {

@@ -1,5 +1,5 @@
 // Setting one row: the checks, the clusters, the sites and their cost.
-ghost use Rattle.std.specs.Prelude.{◌≡◌, ◌+◌, ◌≤◌, ◌++◌, [], length, take, drop, IfOk};
+ghost use Rattle.std.specs.Prelude.{◌≡◌, ◌+◌, ◌≤◌, ◌++◌, length, take, drop, IfOk};
 ghost use Rattle.row.specs.Records.{widths};
 ghost use Rattle.row.specs.Settings.{Cheapest};
 ghost use Rattle.row.specs.Sites.{abut, row_sites, sites_cost};
@@ -9,7 +9,7 @@ ghost use Rattle.row.specs.Task.{set_answer, set_sites};
 use crate::check::check;
 use crate::cluster::{Cluster, Clusters};
 use crate::task::Task;
-use crate::{Cell, FEW_CELLS, MOST_CELLS, Refusal, Row};
+use crate::{Cell, FEW_CELLS, MANY_CELLS, MOST_CELLS, Refusal, Row};
 use measure::Measure;
 
 impl<'a, M: Measure> Task<'a, M> {
@@ -48,15 +48,18 @@ impl<'a, M: Measure> Task<'a, M> {
             .abut_from(cluster.site, &mut sites[first..past])
     }
 
-    // Fills `sites` with the sites of the row's cells, and answers what they cost. It keeps the clusters in a list that it is lent, empty and with room for a cluster of each cell.
-    fn set_with<const N: usize>(&self, clusters: &mut Clusters<N>, sites: &mut [u32]) -> u64
+    // Fills `sites` with the sites of the row's cells, and answers what they cost, in room for `N` clusters.
+    // It is a call of its own for each `N`, so that a row of few cells does not pay for the room of one that has many.
+    #[inline(never)]
+    fn set_in<const N: usize>(&self, sites: &mut [u32]) -> u64
         requires few { length self.now.cells.now ≤ N }
-        requires none { clusters.old.items ≡ [] }
+        requires small { N ≤ 1024 }
         requires each { length sites.old ≡ length self.now.cells.now }
         ensures answer { result ≡ sites_cost (M.price self.now.measure.now) self.now.cells.now (row_sites (M.price self.now.measure.now) self.now.row self.now.cells.now) }
         ensures after { sites.new ≡ row_sites (M.price self.now.measure.now) self.now.row self.now.cells.now }
     {
-        self.put_clusters(clusters);
+        let mut clusters = Clusters::<N>::new();
+        self.put_clusters(&mut clusters);
         let mut cost: u64 = 0;
         for cluster in clusters.as_slice() {
             cost += self.lay_one(*cluster, sites);
@@ -70,11 +73,13 @@ impl<'a, M: Measure> Task<'a, M> {
         ensures answer { result ≡ sites_cost (M.price self.now.measure.now) self.now.cells.now (row_sites (M.price self.now.measure.now) self.now.row self.now.cells.now) }
         ensures after { sites.new ≡ row_sites (M.price self.now.measure.now) self.now.row self.now.cells.now }
     {
-        // Most rows need only a short list, which is sooner made.
+        // The room is cleared when it is made, so that less is sooner made.
         if self.cells.len() <= FEW_CELLS {
-            self.set_with(&mut Clusters::<FEW_CELLS>::new(), sites)
+            self.set_in::<FEW_CELLS>(sites)
+        } else if self.cells.len() <= MANY_CELLS {
+            self.set_in::<MANY_CELLS>(sites)
         } else {
-            self.set_with(&mut Clusters::<MOST_CELLS>::new(), sites)
+            self.set_in::<MOST_CELLS>(sites)
         }
     }
 

@@ -33,15 +33,12 @@ fn probe(from: u32, to: u32, step: u32) -> u32
     }
 }
 
-// How far to step from a start with the rise `rise` to the one to look at next, where the one `distance` sites behind had the rise
-// `above`: as far as a rise that goes on to fall so is at least 0, and twice as far as the last time where it hardly falls.
-fn next_step(above: Option<i64>, rise: i64, distance: u32) -> u32
+// How far to step on from a start with the rise `rise`, when the start `distance` sites behind had the rise `above`: as far as the rise
+// stays at least 0 if it goes on to fall so, and twice as far as the last time where it hardly falls.
+fn next_step(above: i64, rise: i64, distance: u32) -> u32
     requires { 1 ≤ distance }
     ensures { 1 ≤ result }
 {
-    let Some(above) = above else {
-        return 1;
-    };
     let slope = above.abs_diff(rise) / u64::from(distance);
     match rise.unsigned_abs().checked_div(slope) {
         Some(step) => step.clamp(1, u64::from(LAST_PLACE)) as u32,
@@ -82,17 +79,37 @@ impl<'a, M: Measure> Task<'a, M> {
     }
 
     // The least start from `low` to `high` that is `high` or where the rise of the cells is at least 0.
-    // It is mostly near `high`: sought from there in steps, and by halving where a step would lead too far.
+    // It is mostly `high`: so the start before that is looked at first, in place, and a search is a call of its own.
+    #[inline]
     pub(crate) fn best_between(&self, low: u32, high: u32) -> u32
+        requires some { low ≤ high }
+        requires inside { high + widths self.now.cells.now ≤ 65535 }
+        ensures { result ≡ least (climbs (M.price self.now.measure.now) self.now.cells.now) low (high - low) }
+    {
+        if low == high {
+            return high;
+        }
+        let above = self.rise_from(high - 1);
+        let climbs = above >= 0;
+        if climbs {
+            self.best_before(low, high - 1, above)
+        } else {
+            high
+        }
+    }
+
+    // The same where the rise at `high` was `above`, which guides the search and decides nothing. It goes from there in steps, and by
+    // halving where a step would lead too far.
+    #[inline(never)]
+    fn best_before(&self, low: u32, high: u32, above: i64) -> u32
         requires some { low ≤ high }
         requires inside { high + widths self.now.cells.now ≤ 65535 }
         ensures { result ≡ least (climbs (M.price self.now.measure.now) self.now.cells.now) low (high - low) }
     {
         let mut from = low;
         let mut to = high;
+        let mut above = above;
         let mut step: u32 = 1;
-        // The rise at `to`, once it is known.
-        let mut above: Option<i64> = None;
         // By hand, since std's `partition_point` halves a slice, and this is a range of sites.
         while from < to {
             let probe = probe(from, to, step);
@@ -100,7 +117,7 @@ impl<'a, M: Measure> Task<'a, M> {
             let climbs = rise >= 0;
             if climbs {
                 step = next_step(above, rise, to - probe);
-                above = Some(rise);
+                above = rise;
                 to = probe;
             } else {
                 from = probe + 1;

@@ -1,31 +1,16 @@
-use Rattle.std.proofs.Common.{◌≡◌, ℕ, ◌+◌, ◌-◌, ◌<◌, Bool, false, ℤ, pos, sym, ap, ◌∙◌, arith, w64, to_z, of_z}
-use lib.Signed.{le_z, mag}
-use Rattle.std.proofs.lemmas.Int.{to_z-of_z}
-use Rattle.row.specs.Sites.{climbs, least}
+use Rattle.std.proofs.Common.{true, false, ◌∙◌, arith}
 use Rattle.row.proofs.Accepted.{ready_known}
-use Rattle.row.proofs.Least.{least_is, narrowed, after}
-use Rattle.row.proofs.Rises.{climbs_on}
+use Rattle.row.proofs.Least.{least_below, least_last}
+use Rattle.row.proofs.Rises.{climbs_on, tested}
 use Rattle.row.proofs.task.Task.best_between.Goals as goal
 
--- a test of a signed value that was returned is a test of the value
-tested : (r z : ℤ) (b : Bool) → mag r < 9223372036854775808 → r ≡ z → le_z (pos 0) (to_z w64 (of_z w64 r)) ≡ b → le_z (pos 0) z ≡ b
-tested r z b fits is test =
-    let same : to_z w64 (of_z w64 r) ≡ r = to_z-of_z w64 r (record { sfits = fits }) in
-    sym (ap (le_z (pos 0)) (same ∙ is)) ∙ test
+pub returns-then-climbs : goal.returns-then-climbs
+returns-then-climbs g c =
+    c.best_before.ensures ∙ least_below _ c.args.low c.args.high (omega arith) (tested c.rise_from-above.result _ true c.rise_from-above.type_inv c.rise_from-above.ensures c.if-climbs.true)
 
-pub loop-from-init : goal.loop-from-init
-loop-from-init g c = (least_is c.args.low (c.args.high - c.args.low) c.args.high (omega arith), omega arith, omega arith)
-
-pub loop-from-preserved : goal.loop-from-preserved
-loop-from-preserved g c =
-    let from = c.loop-from.from in
-    let to = c.loop-from.to in
-    let probe = c.probe-probe.result in
-    let cells = c.args.self.now.cells.now in
-    let test : ℕ → Bool = climbs (g.M.Measure.price c.args.self.now.measure.now) cells in
-    let inv = c.loop-from.invariant.0 in
-    let fails : test probe ≡ false = tested c.rise_from-rise.result _ false c.rise_from-rise.type_inv c.rise_from-rise.ensures c.if-climbs.false in
+pub returns-else-climbs : goal.returns-else-climbs
+returns-else-climbs g c =
     let fair = g.met.M.Measure.fair c.args.self.now.measure.now in
-    let further : probe < least test c.args.low (c.args.high - c.args.low) =
-    after from to probe _ inv (omega arith) fails (λ t u at up below. climbs_on fair cells t u (ready_known c.args.self.now.row c.args.self.now.cells.now c.args.self.now.ready).pass up (omega arith)) in
-    (narrowed from to (probe + 1) to _ inv (omega arith) (omega arith) inv.upto (omega arith), c.loop-from.invariant.1, c.loop-from.invariant.2)
+    let cells = c.args.self.now.cells.now in
+    least_last _ c.args.low c.args.high (omega arith) (tested c.rise_from-above.result _ false c.rise_from-above.type_inv c.rise_from-above.ensures c.if-climbs.false)
+    (λ t u at up below. climbs_on fair cells t u (ready_known c.args.self.now.row cells c.args.self.now.ready).pass up (omega arith))

@@ -1,7 +1,7 @@
 use Rattle.std.proofs.Common.{◌-◌, ◌≤◌}
 use Rattle.row.specs.Sites.{climbs, least}
 use Rattle.row.proofs.Least.{IsLeast}
-use Rattle.row.proofs.task.Task.best_between.Given as goal
+use Rattle.row.proofs.task.Task.best_before.Given as goal
 
 -- what is sought lies between the two
 abbrev pub invariant-loop-from : goal.invariant-loop-from

@@ -6,7 +6,7 @@ use Rattle.row.proofs.Accepted.{ready_known}
 use Rattle.row.proofs.Defaults.{no_run}
 use Rattle.row.proofs.Finished.{all_tiled, in_places, laid_are, next_bounded}
 use Rattle.row.proofs.Laying.{lay_none, next_spans, lay_more, lay_cost, lay_all_cost}
-use Rattle.row.proofs.task.Task.set_with.Goals as goal
+use Rattle.row.proofs.task.Task.set_in.Goals as goal
 
 pub loop-cluster-init : goal.loop-cluster-init
 loop-cluster-init g c = (0, lay_none _ _ _, refl, omega arith)

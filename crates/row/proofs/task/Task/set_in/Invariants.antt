@@ -1,7 +1,7 @@
 use Rattle.row.proofs.Laying.{Laid}
 use Rattle.row.specs.Sites.{sites_cost}
 use Rattle.std.proofs.Common.{◌≡◌, ℕ, ◌*◌, ◌^◌, ◌≤◌, take}
-use Rattle.row.proofs.task.Task.set_with.Given as goal
+use Rattle.row.proofs.task.Task.set_in.Given as goal
 
 -- the sites of the clusters so far, which end at some place, are written, and what the cells before that place cost is added up
 abbrev pub invariant-loop-cluster : goal.invariant-loop-cluster
