@@ -12,7 +12,7 @@ use crate::Seat;
 use crate::cells::{RowCells, push_cells};
 use crate::seats::Seats;
 use measure::Measure;
-use row::{Cell, FEW_CELLS, MOST_CELLS, Row, Task};
+use row::{Cell, FEW_CELLS, MANY_CELLS, MOST_CELLS, Row, Task};
 use std::ops::Range;
 
 // Sets a row that needs no checks: fills the sites, and answers what they cost.
@@ -43,25 +43,26 @@ fn move_to(seats: &mut [Seat], sites: &[u32])
 }
 
 impl Seats {
-    // Sets the row of a stretch, in room that is lent: an empty list for the cells, and sites for all of them.
+    // Sets the row of a stretch, in room for `N` cells.
+    #[inline(never)]
     fn settle_in<const N: usize, M: Measure>(
         &mut self,
         measure: &M,
         row: Row,
         stretch: Range<usize>,
-        cells: &mut RowCells<N>,
-        sites: &mut [u32],
     )
         requires ready { Ready row (cells_on row self.old.items.items) }
         requires spanned { Spanned row self.old.items.items stretch }
         requires few { stretch.end ≤ stretch.start + N }
-        requires none { cells.old.items ≡ [] }
-        requires room { stretch.end ≤ stretch.start + length sites.old }
+        requires small { N ≤ 1024 }
         ensures { self.new.items.items ≡ settled (M.price measure.now) row self.old.items.items }
     {
-        push_cells(cells, &self.items[stretch.start..stretch.end]);
+        let mut cells = RowCells::<N>::new();
+        let mut room = [0; N];
+        let sites = &mut room[..];
+        push_cells(&mut cells, &self.items[stretch.start..stretch.end]);
         let cells = cells.as_slice();
-        let sites = &mut sites[0..cells.len()];
+        let sites = &mut sites[..cells.len()];
         let _ = set_ready(measure, row, cells, sites);
         move_to(&mut self.items[stretch.start..stretch.end], sites);
     }
@@ -72,23 +73,14 @@ impl Seats {
         ensures { self.new.items.items ≡ settled (M.price measure.now) row self.old.items.items }
     {
         let stretch = self.stretch_of(row);
-        // No heap here: the room is on the stack, as where a cell is tried. Most rows need only a little, which is sooner made.
-        if stretch.end - stretch.start <= FEW_CELLS {
-            self.settle_in(
-                measure,
-                row,
-                stretch,
-                &mut RowCells::<FEW_CELLS>::new(),
-                &mut [0; FEW_CELLS],
-            );
+        let own = stretch.end - stretch.start;
+        // The room is on the stack here too, as in a trial.
+        if own <= FEW_CELLS {
+            self.settle_in::<FEW_CELLS, M>(measure, row, stretch);
+        } else if own <= MANY_CELLS {
+            self.settle_in::<MANY_CELLS, M>(measure, row, stretch);
         } else {
-            self.settle_in(
-                measure,
-                row,
-                stretch,
-                &mut RowCells::<MOST_CELLS>::new(),
-                &mut [0; MOST_CELLS],
-            );
+            self.settle_in::<MOST_CELLS, M>(measure, row, stretch);
         }
     }
 

@@ -9,7 +9,7 @@ use crate::cells::{RowCells, push_cells};
 use crate::seats::set_ready;
 use crate::seats::stretch::RowSeats;
 use measure::Measure;
-use row::{Cell, FEW_CELLS, MOST_CELLS};
+use row::{Cell, FEW_CELLS, MANY_CELLS, MOST_CELLS};
 use table::place_of;
 
 // What a row set with a cell more comes to: what its sites cost then, and the cell's site.
@@ -20,28 +20,26 @@ pub(crate) struct Trial {
 }
 
 impl RowSeats<'_> {
-    // The trial of a cell on the row, in room that is lent: an empty list for the cells, and sites for all of them.
-    fn try_in<const N: usize, M: Measure>(
-        &self,
-        measure: &M,
-        cell: Cell,
-        cells: &mut RowCells<N>,
-        sites: &mut [u32],
-    ) -> Trial
+    // The trial of a cell on the row, in room for `N` cells.
+    // It is a call of its own for each `N`, so that a row of few cells does not pay for the room of one that has many.
+    #[inline(never)]
+    fn try_in<const N: usize, M: Measure>(&self, measure: &M, cell: Cell) -> Trial
         requires fresh { stands cell.number self.now.table.now.items.items ≡ false }
         requires ready { CanTake self.now.row cell self.now.table.now.items.items }
         requires few { length self.now.seats.now < N }
-        requires none { cells.old.items ≡ [] }
-        requires room { length self.now.seats.now < length sites.old }
+        requires small { N ≤ 1024 }
         ensures { result ≡ trial_on (M.price measure.now) self.now.table.now.items.items cell self.now.row }
     {
+        let mut cells = RowCells::<N>::new();
+        let mut room = [0; N];
+        let sites = &mut room[..];
         let at = place_of(self.seats, &Seat::new(self.row, cell));
         let (before, behind) = self.seats.split_at(at);
-        push_cells(cells, before);
+        push_cells(&mut cells, before);
         cells.push(cell);
-        push_cells(cells, behind);
+        push_cells(&mut cells, behind);
         let cells = cells.as_slice();
-        let sites = &mut sites[0..cells.len()];
+        let sites = &mut sites[..cells.len()];
         let cost = set_ready(measure, self.row, cells, sites);
         Trial {
             cost,
@@ -56,21 +54,14 @@ impl RowSeats<'_> {
         requires ready { CanTake self.now.row cell self.now.table.now.items.items }
         ensures { result ≡ trial_on (M.price measure.now) self.now.table.now.items.items cell self.now.row }
     {
-        // No heap here: the room is on the stack. Most rows need only a little, which is sooner made.
-        if self.seats.len() < FEW_CELLS {
-            self.try_in(
-                measure,
-                cell,
-                &mut RowCells::<FEW_CELLS>::new(),
-                &mut [0; FEW_CELLS],
-            )
+        // No heap here: the room is on the stack. It is cleared when it is made, so that less is sooner made.
+        let others = self.seats.len();
+        if others < FEW_CELLS {
+            self.try_in::<FEW_CELLS, M>(measure, cell)
+        } else if others < MANY_CELLS {
+            self.try_in::<MANY_CELLS, M>(measure, cell)
         } else {
-            self.try_in(
-                measure,
-                cell,
-                &mut RowCells::<MOST_CELLS>::new(),
-                &mut [0; MOST_CELLS],
-            )
+            self.try_in::<MOST_CELLS, M>(measure, cell)
         }
     }
 }

@@ -12,7 +12,7 @@ set_ready-cost-requires-clause-ready g c =
     let seats = table.items.items in
     let finds = c.place_of-at.ensures.finds (on_ordered self.row seats _ self.own table.ordered) in
     subst (Ready self.row)
-    (sym (gathered_with self.row c.args.cell seats table.ordered self.own c.new.ensures finds c.split_at.ensures.front c.split_at.ensures.back c.requires.none c.push_cells.ensures.cells c.push.ensures.items c.push_cells-2.ensures.cells c.as_slice-cells.ensures.value))
+    (sym (gathered_with self.row c.args.cell seats table.ordered self.own c.new.ensures finds c.split_at.ensures.front c.split_at.ensures.back c.new-cells.ensures c.push_cells.ensures.cells c.push.ensures.items c.push_cells-2.ensures.cells c.as_slice-cells.ensures.value))
     c.requires.ready
 
 pub returns : goal.returns
@@ -22,5 +22,5 @@ returns g c =
     let seats = table.items.items in
     let finds = c.place_of-at.ensures.finds (on_ordered self.row seats _ self.own table.ordered) in
     trial_is (g.met.M.Measure.fair c.args.measure.now) self.row c.args.cell seats c.requires.ready table.ordered c.requires.fresh
-    (gathered_with self.row c.args.cell seats table.ordered self.own c.new.ensures finds c.split_at.ensures.front c.split_at.ensures.back c.requires.none c.push_cells.ensures.cells c.push.ensures.items c.push_cells-2.ensures.cells c.as_slice-cells.ensures.value)
+    (gathered_with self.row c.args.cell seats table.ordered self.own c.new.ensures finds c.split_at.ensures.front c.split_at.ensures.back c.new-cells.ensures c.push_cells.ensures.cells c.push.ensures.items c.push_cells-2.ensures.cells c.as_slice-cells.ensures.value)
     c.set_ready-cost.ensures.answer c.set_ready-cost.ensures.after self.own c.new.ensures finds
