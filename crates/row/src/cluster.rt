@@ -40,7 +40,7 @@ impl<'a, M: Measure> Task<'a, M> {
         let last = self.row.right - width;
         // At its wanted site a cell costs nothing, so that it stands best there or before.
         let high = wanted.site.max(self.row.left).min(last);
-        let site = self.part(first, past).best_between(self.row.left, high);
+        let site = self.best_between(first, past, self.row.left, high);
         Cluster {
             first,
             past,
@@ -60,7 +60,7 @@ impl<'a, M: Measure> Task<'a, M> {
         let width = before.width + last.width;
         let low = self.row.left.max(last.site.saturating_sub(before.width));
         let high = before.site.min(self.row.right - width);
-        let site = self.part(first, past).best_between(low, high);
+        let site = self.best_between(first, past, low, high);
         Cluster {
             first,
             past,

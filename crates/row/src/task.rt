@@ -78,28 +78,30 @@ impl<'a, M: Measure> Task<'a, M> {
         sum
     }
 
-    // The least start from `low` to `high` that is `high` or where the rise of the cells is at least 0.
+    // The least start from `low` to `high` that is `high` or where the rise of the cells from `first` to `past` - 1 is at least 0.
     // It is mostly `high`: so the start before that is looked at first, in place, and a search is a call of its own.
     #[inline]
-    pub(crate) fn best_between(&self, low: u32, high: u32) -> u32
+    pub(crate) fn best_between(&self, first: usize, past: usize, low: u32, high: u32) -> u32
+        requires begins { first ≤ past }
+        requires within { past ≤ length self.now.cells.now }
         requires some { low ≤ high }
-        requires inside { high + widths self.now.cells.now ≤ 65535 }
-        ensures { result ≡ least (climbs (M.price self.now.measure.now) self.now.cells.now) low (high - low) }
+        requires inside { high + widths (between first past self.now.cells.now) ≤ 65535 }
+        ensures { result ≡ least (climbs (M.price self.now.measure.now) (between first past self.now.cells.now)) low (high - low) }
     {
         if low == high {
             return high;
         }
-        let above = self.rise_from(high - 1);
+        let above = self.part(first, past).rise_from(high - 1);
         let climbs = above >= 0;
         if climbs {
-            self.best_before(low, high - 1, above)
+            self.part(first, past).best_before(low, high - 1, above)
         } else {
             high
         }
     }
 
-    // The same where the rise at `high` was `above`, which guides the search and decides nothing. It goes from there in steps, and by
-    // halving where a step would lead too far.
+    // The same of all cells, where the rise at `high` was `above`, which guides the search and decides nothing. It goes from there in
+    // steps, and by halving where a step would lead too far.
     #[inline(never)]
     fn best_before(&self, low: u32, high: u32, above: i64) -> u32
         requires some { low ≤ high }

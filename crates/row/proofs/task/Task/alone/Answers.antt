@@ -13,7 +13,7 @@ overflow_sub-last g c =
 pub best_between-site-requires : goal.best_between-site-requires
 best_between-site-requires g c =
     let known = one_known c.args.self.now.row c.args.self.now.cells.now c.args.first c.args.self.now.ready c.requires in
-    rw c.part.ensures.cells (record { some = omega arith; inside = omega arith })
+    record { begins = omega arith; within = omega arith; some = omega arith; inside = omega arith }
 
 pub returns : goal.returns
 returns g c =
@@ -25,5 +25,5 @@ returns g c =
     record {
       begins = refl;
       spans = record { starts = omega arith; ends = refl; wide = omega arith };
-      best = (rw (c.part.ensures.measure, c.part.ensures.cells) at c.best_between-site.ensures) ∙ best_narrowed f c.args.self.now.row cs _ _ known.0.room (omega arith) best.from (omega (arith, best.upto)) (omega arith);
+      best = c.best_between-site.ensures ∙ best_narrowed f c.args.self.now.row cs _ _ known.0.room (omega arith) best.from (omega (arith, best.upto)) (omega arith);
     }

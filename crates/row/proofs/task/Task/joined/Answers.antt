@@ -18,7 +18,7 @@ pub best_between-site-requires : goal.best_between-site-requires
 best_between-site-requires g c =
     let known = pair_known c.args.self.now.row c.args.self.now.cells.now c.args.self.now.ready c.requires.follows in
     let best = best_least (g.M.Measure.price c.args.self.now.measure.now) c.args.self.now.row (between c.args.before.first c.args.last.past c.args.self.now.cells.now) known.0.room in
-    rw c.part.ensures.cells (record { some = omega (arith, best.from, best.upto); inside = omega arith })
+    record { begins = omega arith; within = omega arith; some = omega (arith, best.from, best.upto); inside = omega arith }
 
 pub returns : goal.returns
 returns g c =
@@ -29,5 +29,5 @@ returns g c =
     record {
       begins = refl;
       spans = record { starts = omega arith; ends = refl; wide = omega arith };
-      best = (rw (c.part.ensures.measure, c.part.ensures.cells) at c.best_between-site.ensures) ∙ best_narrowed f c.args.self.now.row cs c.max-low.result c.min-high.result known.0.room (omega arith) (omega (arith, best.from)) (omega (arith, best.upto)) (omega arith);
+      best = c.best_between-site.ensures ∙ best_narrowed f c.args.self.now.row cs c.max-low.result c.min-high.result known.0.room (omega arith) (omega (arith, best.from)) (omega (arith, best.upto)) (omega arith);
     }
