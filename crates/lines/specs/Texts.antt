@@ -1,6 +1,7 @@
 -- The text of each line.
 --   text line       its bytes: a word and decimal numbers with spaces between them, the name if there is one, and a newline
 --   granted_text, seated_text, refused_text, unreadable_text, cell_text, cost_text    the text of each kind of line
+--   name_held line  the name that it borrows, if it has one
 --   name_of line    the bytes of its name; none where it has no name
 --   spaced number   a space and the number in decimal
 --   spot line site  a line and a site, each after a space
@@ -73,11 +74,15 @@ text (Unreadable index number place) = unreadable_text index number place
 text (Cell number line site) = cell_text number line site
 text (Cost cost) = cost_text cost
 
--- the name in a line that may have one
+-- the name that a line borrows, if it has one
+abbrev pub name_held : Line → Option (Bor (List ℕ))
+name_held (Granted index name) = name
+name_held (Seated index line site rise name) = name
+name_held (Refused index number name) = name
+name_held (Unreadable index number place) = None
+name_held (Cell number line site) = None
+name_held (Cost cost) = None
+
+-- the name's bytes
 abbrev pub name_of : Line → List ℕ
-name_of (Granted index name) = name_bytes name
-name_of (Seated index line site rise name) = name_bytes name
-name_of (Refused index number name) = name_bytes name
-name_of (Unreadable index number place) = []
-name_of (Cell number line site) = []
-name_of (Cost cost) = []
+name_of line = name_bytes (name_held line)

@@ -3,7 +3,7 @@
 
 ghost use Rattle.std.specs.Prelude.{◌≡◌, ◌+◌, ◌≤◌, length, IfOk};
 ghost use Rattle.lines.specs.Fronts.{HasRoom, Puts};
-ghost use Rattle.lines.specs.Texts.{text, name_of, name_bytes};
+ghost use Rattle.lines.specs.Texts.{text, name_held, name_of};
 ghost use Rattle.lines.specs.Writes.{number_of, write_answer, write_buffer};
 
 mod front;
@@ -74,7 +74,7 @@ impl<'a> Line<'a> {
     // The line's name, where it has one; all else takes at most 58 bytes.
     #[tactic(auto, using(crate::proofs::Lengths::text_length))]
     fn name(self) -> Option<&'a [u8]>
-        ensures value { name_bytes result ≡ name_of self.entry }
+        ensures value { result ≡ name_held self.entry }
         ensures others { length (text self.entry) ≤ 58 + length (name_of self.entry) }
     {
         match self {

@@ -22,7 +22,7 @@
 -- reads_as text                  what a text gives, or the first line that cannot be read and why
 -- given task                     a task as what it gives
 -- Answers view told r            r is what was told, or there was no memory
--- Continues form before after r  r is the next line that counts, or that the text ends before it
+-- Continues form before after r  r is the next line that counts, or that the text ends before it, and then all lines are read
 use Rattle.std.specs.Prelude.{◌≡◌, ℕ, List, [], ◌∷◌, Ok, Err, vec_items, Result, MatchResult}
 use Rattle.measure.specs.declared.name.MeasureName.{MeasureName}
 use Rattle.row.specs.declared.Cell.{Cell}
@@ -38,7 +38,7 @@ use Rattle.setrow.specs.declared.task.Reason.TheVariants.{Missing}
 use Rattle.setrow.specs.declared.task.Task.{Task}
 use Rattle.setrow.specs.declared.task.Unreadable.{Unreadable}
 use Rattle.setrow.specs.Forms.{measure_of, row_of, cell_of}
-use Rattle.setrow.specs.Lines.{Counted, counted, end_of, left, end, Next}
+use Rattle.setrow.specs.Lines.{Counted, counted, end_of, end, Next, Last}
 use Rattle.setrow.specs.Steps.{then}
 use Rattle.setrow.specs.Text.{lines}
 
@@ -83,4 +83,4 @@ Answers view told (Err NoMemory) = Unit {0}
 
 abbrev pub Continues : Form → Lines → Lines → Result Entry Unreadable → Type 0
 Continues form before after r =
-    MatchResult r (Next before after) (λ why. (left before ≡ []) × (why ≡ record { line = end before; reason = Missing form }))
+    MatchResult r (Next before after) (λ why. Last before after × (why ≡ record { line = end before; reason = Missing form }))

@@ -9,7 +9,7 @@ pub returns-in_err-word : goal.returns-in_err-word
 returns-in_err-word g c =
     let p = err_from_is_err_and c.from_residual.result c.from_residual.ensures.1 in
     let none = c.in_err-word.ensures.word in
-    p.1 ∙ ap Err (p.2 ∙ none.1 ∙ ap (λ form. TooFewWords form) c.loop-value.invariant.same_form)
+    p.1 ∙ ap Err (p.2 ∙ none.2 ∙ ap (λ form. TooFewWords form) c.loop-value.invariant.same_form)
     ∙ too_few c.loop-value.invariant.sofar (omega arith) none.0
 
 pub returns-in_err-value : goal.returns-in_err-value
