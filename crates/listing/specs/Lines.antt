@@ -4,9 +4,7 @@
 --   fault_line       the line of a fault: the record's index, the place, the refusal's number and why
 --   record_lines     the lines of the records from where a reader stands, and of the fault that ends them, if there is one
 --   job_lines        the lines of a job
---   Appends          a call that does not fail for want of memory has added these bytes
-use Rattle.std.specs.Prelude.{◌≡◌, ℕ, zero, suc, ◌+◌, true, List, [], ◌∷◌, ◌++◌, length, is_ok, Some, None, Ok, Err, vec_items, codes, decimal, Option, Result, Vec}
-use Rattle.std.specs.declared.alloc.Global.{Global}
+use Rattle.std.specs.Prelude.{ℕ, zero, suc, ◌+◌, List, [], ◌∷◌, ◌++◌, length, Some, None, Ok, Err, codes, decimal, Option, Result}
 use Rattle.job.specs.Causes.{fault_text}
 use Rattle.job.specs.Format.{Named, CellNamed, Content}
 use Rattle.job.specs.Format.Content.{row, place, withdraw, try}
@@ -73,7 +71,3 @@ opened_lines (Err fault) = fault_line fault
 
 abbrev pub job_lines : List ℕ → List ℕ
 job_lines bytes = opened_lines (open_answer bytes)
-
--- a call that does not fail for want of memory has added these bytes
-abbrev pub Appends : {E : Type 0} → Vec ℕ Global → Result (Unit {0}) E → List ℕ → Vec ℕ Global → Type 0
-Appends from r bytes to = is_ok r ≡ true → vec_items to ≡ vec_items from ++ bytes

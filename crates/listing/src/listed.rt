@@ -1,7 +1,8 @@
 // The listing of a whole job.
 ghost use Rattle.std.specs.Prelude.{◌+◌, length};
 ghost use Rattle.job.specs.Reading.{standing};
-ghost use Rattle.listing.specs.Lines.{Appends, record_lines, job_lines};
+ghost use Rattle.lines.specs.Appended.{Appends};
+ghost use Rattle.listing.specs.Lines.{record_lines, job_lines};
 
 use crate::parts::{put_fault, put_measure, put_record};
 use job::{Job, Reader};

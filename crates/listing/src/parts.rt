@@ -2,7 +2,8 @@
 ghost use Rattle.std.specs.Prelude.{◌++◌, IfSome};
 ghost use Rattle.std.specs.Option.{option_map};
 ghost use Rattle.job.specs.Reads.{named, cell_named, content};
-ghost use Rattle.listing.specs.Lines.{Appends, end_of_line, measure_line, name_text, cell_text, cell_line, record_line, fault_line};
+ghost use Rattle.lines.specs.Appended.{Appends};
+ghost use Rattle.listing.specs.Lines.{end_of_line, measure_line, name_text, cell_text, cell_line, record_line, fault_line};
 
 use job::{Fault, MeasureName, Name, Record};
 use row::{Cell, Row, Spot};

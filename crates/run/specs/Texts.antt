@@ -5,10 +5,8 @@
 --   end_text            what is said at a job's end: the lines of the cells that stand, and what they cost
 --   run_text            the lines from a state on: of the steps, and of the end
 --   job_text            what a job says: its steps and its end, or the fault that it is refused with
---   Appends             a call that does not fail for want of memory has added these bytes
-use Rattle.std.specs.Prelude.{◌≡◌, ℕ, zero, suc, ◌+◌, true, List, [], ◌++◌, length, is_ok, Some, None, Ok, Err, vec_items, Option, Result, Vec}
+use Rattle.std.specs.Prelude.{ℕ, zero, suc, ◌+◌, List, [], ◌++◌, length, Some, None, Ok, Err, Option, Result}
 use Rattle.std.specs.List.{flat_map}
-use Rattle.std.specs.declared.alloc.Global.{Global}
 use Rattle.floor.specs.declared.Seat.{Seat}
 use Rattle.job.specs.Opening.{Opened, open_answer}
 use Rattle.job.specs.declared.record.Fault as unread
@@ -58,7 +56,3 @@ opened_text (Err fault) = fault_text None (Unread fault)
 
 abbrev pub job_text : List ℕ → List ℕ
 job_text bytes = opened_text (open_answer bytes)
-
--- a call that does not fail for want of memory has added these bytes
-abbrev pub Appends : {X E : Type 0} → Vec ℕ Global → Result X E → List ℕ → Vec ℕ Global → Type 0
-Appends from r bytes to = is_ok r ≡ true → vec_items to ≡ vec_items from ++ bytes

@@ -1,11 +1,12 @@
 // Carrying out a whole job: the lines of its records, of the cells that stand then, and of what they cost.
 ghost use Rattle.std.specs.Prelude.{◌≡◌, ◌≤◌, true, length, is_ok, IfOk};
+ghost use Rattle.lines.specs.Appended.{Appends};
 ghost use Rattle.lines.specs.Texts.{name_of, text};
 ghost use Rattle.measure.specs.Names.{named_price};
 ghost use Rattle.run.specs.State.{measure_in, state};
 ghost use Rattle.run.specs.Steps.{costs_text};
 ghost use Rattle.run.specs.Jobs.{AtEnd};
-ghost use Rattle.run.specs.Texts.{Appends, cell_texts, enough, job_text, run_end, steps_text};
+ghost use Rattle.run.specs.Texts.{cell_texts, enough, job_text, run_end, steps_text};
 
 use crate::fault::Fault;
 use crate::run::Run;
