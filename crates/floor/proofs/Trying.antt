@@ -116,12 +116,12 @@ module _ {f : ℕ → ℕ → ℕ → ℕ} (fair : Fair f) (row : Row) (cell : C
       sym (site_of_number row cell.number sites (joined row cell seats) long own ∙ ap (λ n. get_or sites n 0) place_is)
 
 -- what a trial answers, as the program comes to it
-pub trial_is : {f : ℕ → ℕ → ℕ → ℕ} (fair : Fair f) (row : Row) (cell : Cell) (seats : List Seat) {slice : List Seat} {key : Seat} {cells : List Cell} {sites : List ℕ} {at cost : ℕ} → Ready row (cells_on row (joined row cell seats)) → Ordered seat_ahead seats → stands cell.number seats ≡ false →
-    cells ≡ cells_on row (joined row cell seats) → cost ≡ sites_cost f cells (row_sites f row cells) → sites ≡ row_sites f row cells → slice ≡ seats_on row seats → key ≡ new_seat row cell → at ≡ rank_of seat_ahead slice key →
+pub trial_is : {f : ℕ → ℕ → ℕ → ℕ} (fair : Fair f) (row : Row) (cell : Cell) (seats : List Seat) {slice : List Seat} {cells : List Cell} {sites : List ℕ} {at cost : ℕ} → Ready row (cells_on row (joined row cell seats)) → Ordered seat_ahead seats → stands cell.number seats ≡ false →
+    cells ≡ cells_on row (joined row cell seats) → cost ≡ sites_cost f cells (row_sites f row cells) → sites ≡ row_sites f row cells → slice ≡ seats_on row seats → at ≡ rank_of seat_ahead slice (new_seat row cell) →
     record { cost = cost; site = get_or sites at 0 } ≡ trial_on f seats cell row
-trial_is {f} fair row cell seats ready ordered fresh gather costs set own new finds =
+trial_is {f} fair row cell seats ready ordered fresh gather costs set own finds =
     let cost_is = costs ∙ ap (λ cs. sites_cost f cs (row_sites f row cs)) gather ∙ sym (seated_cost fair seats row cell ready) in
     let found = set ∙ ap (row_sites f row) gather in
-    let place = finds ∙ (λ i. rank_of seat_ahead (own i) (new i)) in
+    let place = finds ∙ ap (λ l. rank_of seat_ahead l (new_seat row cell)) own in
     let site_is = (λ i. get_or (found i) (place i) 0) ∙ site_at fair row cell seats ready ordered fresh in
     (λ i. record { cost = cost_is i; site = site_is i })

@@ -1,6 +1,6 @@
 use Rattle.std.proofs.Common.{sym, subst}
 use Rattle.row.specs.Stack.{Ready}
-use Rattle.floor.proofs.Stretch.{on_ordered, gathered_with}
+use Rattle.floor.proofs.Stretch.{gathered_with}
 use Rattle.floor.proofs.Trying.{trial_is}
 use Rattle.floor.proofs.seats.stretch.RowSeats.try_in.Goals as goal
 
@@ -10,9 +10,8 @@ set_ready-cost-requires-clause-ready g c =
     let self = c.args.self.now in
     let table = self.table.now in
     let seats = table.items.items in
-    let finds = c.place_of-at.ensures.finds (on_ordered self.row seats _ self.own table.ordered) in
     subst (Ready self.row)
-    (sym (gathered_with self.row c.args.cell seats table.ordered self.own c.new.ensures finds c.split_at.ensures.front c.split_at.ensures.back c.new-cells.ensures c.push_cells.ensures.cells c.push.ensures.items c.push_cells-2.ensures.cells c.as_slice-cells.ensures.value))
+    (sym (gathered_with self.row c.args.cell seats table.ordered self.own c.place-at.ensures.finds c.split_at.ensures.front c.split_at.ensures.back c.new-cells.ensures c.push_cells.ensures.cells c.push.ensures.items c.push_cells-2.ensures.cells c.as_slice-cells.ensures.value))
     c.requires.ready
 
 pub returns : goal.returns
@@ -20,7 +19,6 @@ returns g c =
     let self = c.args.self.now in
     let table = self.table.now in
     let seats = table.items.items in
-    let finds = c.place_of-at.ensures.finds (on_ordered self.row seats _ self.own table.ordered) in
     trial_is (g.met.M.Measure.fair c.args.measure.now) self.row c.args.cell seats c.requires.ready table.ordered c.requires.fresh
-    (gathered_with self.row c.args.cell seats table.ordered self.own c.new.ensures finds c.split_at.ensures.front c.split_at.ensures.back c.new-cells.ensures c.push_cells.ensures.cells c.push.ensures.items c.push_cells-2.ensures.cells c.as_slice-cells.ensures.value)
-    c.set_ready-cost.ensures.answer c.set_ready-cost.ensures.after self.own c.new.ensures finds
+    (gathered_with self.row c.args.cell seats table.ordered self.own c.place-at.ensures.finds c.split_at.ensures.front c.split_at.ensures.back c.new-cells.ensures c.push_cells.ensures.cells c.push.ensures.items c.push_cells-2.ensures.cells c.as_slice-cells.ensures.value)
+    c.set_ready-cost.ensures.answer c.set_ready-cost.ensures.after self.own c.place-at.ensures.finds
