@@ -1,5 +1,6 @@
 -- The calls of a floor, as functions of what it holds: its rows and its seats, both in their order.
 --   rows_after             the rows once one is added
+--   seated, without        the seats with a cell more, its row set; the seats without a number's
 --   rise                   what a row costs more with a cell more, the line's cost counted
 --   chosen                 the row of least rise among those that have sites; of equal ones the first in row order
 --   place_answer, seats_after_place     what placing answers, and the seats then

@@ -1,4 +1,4 @@
--- What the table of seats keeps has one proof at most, so that the table may hold it; so does what a walk over its rows keeps.
+-- What the table of seats keeps has one proof at most, so that the table may hold it; so has what a walk over its rows keeps.
 --   Ordered-prop     that the seats are in their order
 --   InStep-prop      that the seats ahead of a walk are in step with its rows
 use Rattle.std.specs.Prelude.{◌≡◌, List, [], ◌∷◌, drop, true}

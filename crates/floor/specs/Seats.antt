@@ -4,16 +4,19 @@
 --   on_row           whether a seat is on a row
 --   seat_ahead       the order of seats: by row order, then by wanted order
 --   seats_on         the seats of a row, in their order; cells_on, sites_on: their cells and their sites
+--   Sited            that a seat's cell and site are within their ranges
+--   new_seat         a seat before its row is set; row_key: a seat that none of a row's is ahead of
+--   resited          the seats with the sites of a row's own rewritten; moved_all: seats at other sites, one after another
 --   site_cost        what the site of a seat costs; row_cost: the cost of the sites of a row
 --   joined           the seats with one more, for a cell on a row, in its place
 --   CanTake          that a row can be set with a cell more
 --   settled          the seats once a row is set: only the sites of its own seats are rewritten
 --   floor_cost       the cost of all seats: of their sites and of their lines
-use Rattle.std.specs.Prelude.{◌≡◌, ℕ, ◌+◌, ◌≤◌, Bool, cond, ◌&&◌, ◌||◌, List, [], ◌∷◌, map, None, filter}
+use Rattle.std.specs.Prelude.{ℕ, ◌+◌, ◌≤◌, Bool, cond, ◌&&◌, ◌||◌, List, [], ◌∷◌, map, filter}
 use Rattle.std.specs.List.{insert}
-use Rattle.row.specs.Records.{before, row_ahead, cell_fault}
+use Rattle.row.specs.Records.{before, row_ahead}
 use Rattle.row.specs.Sites.{row_sites, sites_cost}
-use Rattle.row.specs.Stack.{Ready}
+use Rattle.row.specs.Stack.{Passes, Ready}
 use Rattle.row.specs.declared.Cell.{Cell}
 use Rattle.row.specs.declared.Row.{Row}
 use Rattle.table.specs.Order.{rank_of}
@@ -64,7 +67,7 @@ sites_on row seats = map site_of (seats_on row seats)
 
 -- a seat of a cell within its ranges, at a place
 abbrev pub Sited : Seat → Type 0
-Sited s = (cell_fault s.cell ≡ None) × (s.site ≤ 65535)
+Sited s = Passes s.cell × (s.site ≤ 65535)
 
 -- what the site of a seat costs
 abbrev pub site_cost : (ℕ → ℕ → ℕ → ℕ) → Seat → ℕ
@@ -90,15 +93,15 @@ joined row cell seats = insert seats (rank_of seat_ahead seats (new_seat row cel
 abbrev pub CanTake : Row → Cell → List Seat → Type 0
 CanTake row cell seats = Ready row (cells_on row (joined row cell seats))
 
+-- a seat at another site
+abbrev pub moved : Seat → ℕ → Seat
+moved s x = record { cell = s.cell; row = s.row; site = x }
+
 -- the seats with the sites of a row's own rewritten, one after another
 abbrev pub resited : Row → List ℕ → List Seat → List Seat
 resited row sites [] = []
 resited row [] (s ∷ seats) = s ∷ seats
-resited row (x ∷ xs) (s ∷ seats) = cond (on_row row s) (record { cell = s.cell; row = s.row; site = x } ∷ resited row xs seats) (s ∷ resited row (x ∷ xs) seats)
-
--- a seat at another site
-abbrev pub moved : Seat → ℕ → Seat
-moved s x = record { cell = s.cell; row = s.row; site = x }
+resited row (x ∷ xs) (s ∷ seats) = cond (on_row row s) (moved s x ∷ resited row xs seats) (s ∷ resited row (x ∷ xs) seats)
 
 -- seats at other sites, one after another from the first on
 abbrev pub moved_all : List ℕ → List Seat → List Seat

@@ -1,4 +1,4 @@
-// Room for setting one row, on the stack: its cells are gathered there, and their sites are written.
+// Room on the stack for the cells of one row, and how they are gathered there.
 ghost use Rattle.std.specs.Prelude.{◌≡◌, ◌+◌, ◌≤◌, ◌++◌, length, map};
 ghost use Rattle.arrayvec.specs.ArrayVec.{array_vec_len};
 ghost use Rattle.floor.specs.Seats.{cell_of};
@@ -7,7 +7,7 @@ use crate::Seat;
 use arrayvec::ArrayVec;
 use row::Cell;
 
-// The cells of a row of at most `N`, on the stack: no call of a floor takes heap.
+// Room for at most `N` cells of a row, on the stack: no call on a floor that stands takes heap.
 pub(crate) type RowCells<const N: usize> = ArrayVec<Cell, N>;
 
 // Adds the cells of some seats.

@@ -45,7 +45,7 @@ impl Choice {
 }
 
 impl<M: Measure> Offer<'_, M> {
-    // A row with its rise, which is what its sites cost more once it is set with the cell, and what its line costs.
+    // A row as a choice: its rise, which is what its sites cost more once it is set with the cell and what its line costs, and the site that the cell gets.
     fn choice(&self, own: &RowSeats<'_>) -> Choice
         requires table { own.now.table.now ≡ self.now.seats.now }
         requires ready { CanTake own.now.row self.now.cell self.now.seats.now.items.items }

@@ -1,4 +1,5 @@
 -- Cells and rows: the ranges of their fields, and wanted order.
+--   check          a failure where a test does not pass, and else what the checks after it say; then: checks that are made elsewhere, and those after them
 --   cell_fault     the first field of a cell that is outside its range, if there is one
 --   row_fault      the same of a row
 --   before         wanted order: by wanted site, then by number

@@ -1,5 +1,6 @@
 -- What `set` refuses, and the number of each refusal.
---   number_of         a refusal's number
+--   fault_number      the number of a field outside its range; number_of: a refusal's number
+--   next_refusal      the refusal of a cell after the one before it; cells_refusal: of cell after cell
 --   set_refusal       the refusal of the first of the checks of `set` that fails, if one does
 use Rattle.std.specs.Prelude.{ℕ, ◌-◌, Bool, true, ◌&&◌, List, [], ◌∷◌, length, Some, None, Option, ◌==◌, nat_le}
 use Rattle.std.specs.Option.{option_map}

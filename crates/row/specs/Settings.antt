@@ -1,6 +1,9 @@
 -- Settings of one row, in the words of its users: cells and their sites.
 --   Placed            a cell and the site that it has; it covers its width from there on
 --   placed            cells with their sites, one by one
+--   EveryPair         of every two of some things, the earlier one first
+--   Covers            a cell covers a site; Within: it lies within a row; Clear: two cells cover no site both
+--   Rising            of two cells, the one that is wanted first has the smaller site
 --   Legal             every cell lies within the row, and no two cells share a site
 --   InWantedOrder     of any two cells, the one that is wanted before the other has the smaller site
 --   Setting           a site for each cell that is legal and in wanted order

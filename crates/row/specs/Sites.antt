@@ -1,6 +1,7 @@
 -- Setting one row: what its sites are.
 --   abut              the sites of cells that abut from a site on
 --   cluster_rise      the rise of abutting cells: the sum of their rises at the sites that they have
+--   climbs            whether that rise is at least 0
 --   least             the least of some places that passes a test, or the last of them
 --   best_site         where a cluster stands best: the least site that is the last one or has a rise of at least 0
 --   reach             from the start of a cluster to where the next may start

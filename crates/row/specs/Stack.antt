@@ -4,6 +4,10 @@
 --   part             the cells of a run
 --   cluster_of       a run as a cluster
 --   stack_of         runs as clusters, the last one first
+--   Spans            one run: not empty, up to a place, with the width of its cells
+--   AtBest           a run from one place to another, at the best site of its cells
+--   Follows          two runs that follow one another
+--   Bracketed        between which sites the best site of two such runs as one lies
 --   Tiled            runs that follow one another from the first cell on, each with its width
 --   InPlaces         a run that ends within the places, which go up to 65,535
 --   Holds            runs that are the clusters of a row's first cells

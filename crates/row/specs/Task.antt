@@ -1,4 +1,5 @@
--- What `set` answers, and what the sites hold then.
+-- What `set` answers, and the `set` of a task, and what the sites hold then.
+--   granted          a value where nothing is refused; changed: what stands after a call
 --   set_answer       the cost of the row's sites, or the refusal
 --   set_sites        the row's sites, or, where it refuses, the sites as they were
 use Rattle.std.specs.Prelude.{ℕ, List, length, Some, None, Ok, Err, Option, Result}

@@ -1,4 +1,4 @@
-// The checks of cells, rows and whole tasks, in the order of what they refuse.
+// The checks of cells, of rows and of all that `set` is given, in the order of what they refuse.
 ghost use Rattle.std.specs.Prelude.{◌≡◌, ◌≤◌, length, None};
 ghost use Rattle.row.specs.declared.Refusal.TheVariants.{OutOfRange};
 ghost use Rattle.row.specs.Records.{cell_fault, row_fault, widths};

@@ -13,10 +13,10 @@ pub use task::Task;
 // How many cells a row is set with at most.
 pub const MOST_CELLS: usize = 1_024;
 
-// How many cells most rows have at most. What is done for a row on the stack is sooner done where room for so many is enough.
+// Most rows have no more cells than this. Room on the stack is made sooner where it need hold only so many.
 pub const FEW_CELLS: usize = 32;
 
-// How many cells nearly all rows have at most: room for so many is what comes between.
+// Nearly all rows have no more cells than this: the room between the least and the most.
 pub const MANY_CELLS: usize = 256;
 
 // A site on a line.

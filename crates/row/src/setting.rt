@@ -22,7 +22,7 @@ impl<'a, M: Measure> Task<'a, M> {
     {
         let mut cost: u64 = 0;
         let mut site = start;
-        // By place: of what a `zip` with `iter_mut` has written an invariant has no name, so the proof does not close.
+        // By place: over a `zip` with `iter_mut` an invariant has no name for what has been written, so the proof does not close.
         for (i, cell) in self.cells.iter().enumerate() {
             sites[i] = site;
             cost += self
@@ -73,7 +73,7 @@ impl<'a, M: Measure> Task<'a, M> {
         ensures answer { result ≡ sites_cost (M.price self.now.measure.now) self.now.cells.now (row_sites (M.price self.now.measure.now) self.now.row self.now.cells.now) }
         ensures after { sites.new ≡ row_sites (M.price self.now.measure.now) self.now.row self.now.cells.now }
     {
-        // The room is cleared when it is made, so that less is sooner made.
+        // The room is cleared when it is made, so that less room is made sooner.
         if self.cells.len() <= FEW_CELLS {
             self.set_in::<FEW_CELLS>(sites)
         } else if self.cells.len() <= MANY_CELLS {

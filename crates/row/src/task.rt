@@ -19,7 +19,7 @@ pub struct Task<'a, M: Measure> {
     ghost ready: { Ready row cells.now } by { Prim.hlevel props },
 }
 
-// Where to look next between two starts: a step before the second, or in the middle where the step is longer than what is between them.
+// Where to look next between two starts: a step before the second, or in the middle where the step is not shorter than what is between them.
 fn probe(from: u32, to: u32, step: u32) -> u32
     requires some { from < to }
     requires forward { 1 ≤ step }

@@ -1,11 +1,11 @@
-// Ordered tables: records that have a rank, and the one search for a record's place among them.
+// Ordered tables: records that have a rank, and the search for a record's place among them.
 #![tactic(auto)]
 
 ghost use Rattle.std.specs.Prelude.{◌≡◌, ◌≤◌, Bool, true, length};
 ghost use Rattle.table.specs.Order.{Ordered, rank_of};
 
 // A record that is ahead of another, or is not.
-// It is not `Ord`: a seat's rank is the order of some of its fields, and each type shows `chain` to the one search.
+// It is not `Ord`: a seat's rank is the order of some of its fields, and each type shows `chain` to the search.
 pub trait Ranked {
     ghost ahead: { Self → Self → Bool };
 

@@ -27,7 +27,7 @@ impl<M: Measure> Floor<M> {
     {
         let seats = self.seats.as_slice();
         let mut sum: u64 = 0;
-        // A rule of the project: the floor's cost is a `for` loop over the seats.
+        // By a loop, whose invariant keeps the sum of both costs of each seat below the bound.
         for seat in seats {
             let across = self
                 .measure

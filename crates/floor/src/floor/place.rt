@@ -15,7 +15,7 @@ use measure::Measure;
 use row::{Cell, MOST_CELLS};
 
 impl<M: Measure> Floor<M> {
-    // Refuses a cell that no row can take, by the first check that fails.
+    // Refuses a cell by the first check that fails, of those that look at no row.
     pub(super) fn check_cell(&self, cell: &Cell) -> Result<(), Refusal>
         ensures { checked result ≡ cell_refusal (seats_of self.now) cell.now }
     {
@@ -29,7 +29,7 @@ impl<M: Measure> Floor<M> {
         Ok(())
     }
 
-    // The row of least rise for a cell, with its rise, if a row has sites for it.
+    // The row of least rise for a cell, with its rise and the cell's site there, if a row has sites for it.
     pub(super) fn choose(&self, cell: Cell) -> Option<Choice>
         requires { cell_refusal (seats_of self.now) cell ≡ None }
         ensures { result ≡ option_map (choice_of (M.price self.now.measure) (seats_of self.now) cell)

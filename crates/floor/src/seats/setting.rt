@@ -1,5 +1,5 @@
 // Setting a row: its cells are gathered, and its seats moved to their sites.
-ghost use Rattle.std.specs.Prelude.{◌≡◌, ◌+◌, ◌<◌, ◌≤◌, [], false, length, None};
+ghost use Rattle.std.specs.Prelude.{◌≡◌, ◌+◌, ◌<◌, ◌≤◌, false, length, None};
 ghost use Rattle.row.specs.Records.{cell_fault};
 ghost use Rattle.row.specs.Sites.{row_sites, sites_cost};
 ghost use Rattle.row.specs.Stack.{Ready};

@@ -22,7 +22,7 @@ pub(crate) struct RowSeats<'a> {
     ghost few: { length seats.now ≤ 1024 },
 }
 
-// A key for the seats of a row: none of them is ahead of it. It is a whole seat, since the one search `place_of` compares records of one type.
+// A key for the seats of a row: none of them is ahead of it. It is a whole seat, since `place_of` compares records of one type.
 fn key(row: Row) -> Seat
     ensures { result ≡ row_key row }
 {

@@ -1,5 +1,5 @@
 // Trying a cell on a row: the row is set with it, beside the table, and nothing is kept.
-ghost use Rattle.std.specs.Prelude.{◌≡◌, ◌<◌, ◌≤◌, [], false, length};
+ghost use Rattle.std.specs.Prelude.{◌≡◌, ◌<◌, ◌≤◌, false, length};
 ghost use Rattle.floor.specs.Choices.{trial_on};
 ghost use Rattle.floor.specs.Refusals.{stands};
 ghost use Rattle.table.specs.Order.{rank_of};
@@ -61,7 +61,7 @@ impl RowSeats<'_> {
         requires ready { CanTake self.now.row cell self.now.table.now.items.items }
         ensures { result ≡ trial_on (M.price measure.now) self.now.table.now.items.items cell self.now.row }
     {
-        // No heap here: the room is on the stack. It is cleared when it is made, so that less is sooner made.
+        // No heap here: the room is on the stack. It is cleared when it is made, so that less room is made sooner.
         let others = self.seats.len();
         if others < FEW_CELLS {
             self.try_in::<FEW_CELLS, M>(measure, cell)
