@@ -4,6 +4,7 @@ use Rattle.std.proofs.ByRecursion.{All-weaker}
 use Rattle.std.proofs.lemmas.Bool.{leb-true, leb-false, both_ways, or_cases}
 use Rattle.std.proofs.lemmas.Option.{same_Some}
 use Rattle.std.specs.List.{ContainsAt as Has, AllByRecursion, list_any}
+use Rattle.measure.specs.Costs.{Price}
 use Rattle.row.specs.Records.{row_ahead}
 use Rattle.row.specs.declared.Cell.{Cell}
 use Rattle.row.specs.declared.Row.{Row}
@@ -21,7 +22,7 @@ use Rattle.floor.proofs.Orders.{row_once}
 use Rattle.floor.proofs.Placed.{chosen_good}
 use Rattle.floor.proofs.Rowed.{ordered_rows}
 
-module _ (f : ℕ → ℕ → ℕ → ℕ) (seats : List Seat) (cell : Cell) where
+module _ (f : Price) (seats : List Seat) (cell : Cell) where
   abbrev rises : Row → ℕ
   rises = rise f seats cell
 
@@ -105,7 +106,7 @@ standing_has (r ∷ rows) row e =
     (λ there. let rest = standing_has rows row there in (suc rest.0, let within = rest.1 in omega arith, rest.2))
     (or_cases (is_row row r) (list_any (is_row row) rows) e)
 
-module _ (f : ℕ → ℕ → ℕ → ℕ) (rows : List Row) (seats : List Seat) (well : formed rows seats ≡ true) (cell : Cell) where
+module _ (f : Price) (rows : List Row) (seats : List Seat) (well : formed rows seats ≡ true) (cell : Cell) where
   least_row : (row : Row) (site : ℕ) → chosen f seats cell rows ≡ Some row → Least f rows seats cell (record { spot = record { line = row.line; site = site }; rise = rise f seats cell row })
   least_row row site is =
       let good = chosen_good f rows seats cell row is in

@@ -3,6 +3,7 @@ use Rattle.std.proofs.Common.{◌≡◌, ℕ, Bool, true, false, cond, leb, List
 use Rattle.std.proofs.lemmas.Bool.{leb-true, leb-false, le-leb, lt-leb}
 use Rattle.std.specs.List.{filter_map, cons_option, fold}
 use Rattle.std.specs.Option.{option_map}
+use Rattle.measure.specs.Costs.{Price}
 use Rattle.row.specs.declared.Cell.{Cell}
 use Rattle.row.specs.declared.Row.{Row}
 use Rattle.floor.specs.Calls.{rise, better, chosen}
@@ -33,7 +34,7 @@ module _ (rises : Row → ℕ) where
   better_more b row None = two (leb (rises b) (rises row)) b row
   better_more b row (Some c) = three b row c (leb (rises b) (rises row)) (leb (rises row) (rises c)) refl refl
 
-module _ (f : ℕ → ℕ → ℕ → ℕ) (seats : List Seat) (cell : Cell) where
+module _ (f : Price) (seats : List Seat) (cell : Cell) where
   abbrev with_rise : Row → Choice
   with_rise = choice_of f seats cell
 

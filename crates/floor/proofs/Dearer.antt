@@ -1,6 +1,6 @@
 -- A granted placing's rise is what the floor costs more, where the floor's rows were set.
 use Rattle.std.proofs.Common.{◌≡◌, ℕ, ◌+◌, true, List, Some, None, Ok, Option, refl, ap, ◌∙◌, arith}
-use Rattle.measure.specs.Costs.{Fair}
+use Rattle.measure.specs.Costs.{Fair, Price}
 use Rattle.row.specs.declared.Cell.{Cell}
 use Rattle.row.specs.declared.Row.{Row}
 use Rattle.row.specs.Task.{changed}
@@ -21,7 +21,7 @@ use Rattle.floor.proofs.Placed.{chosen_good, free_cell}
 use Rattle.floor.proofs.Ready.{ready_standing}
 use Rattle.floor.proofs.Risen.{rise_is}
 
-module _ (f : ℕ → ℕ → ℕ → ℕ) (fair : Fair f) (rows : List Row) (seats : List Seat) (well : formed rows seats ≡ true) (set : Settled f rows seats) (cell : Cell) (placing : Placing) where
+module _ (f : Price) (fair : Fair f) (rows : List Row) (seats : List Seat) (well : formed rows seats ≡ true) (set : Settled f rows seats) (cell : Cell) (placing : Placing) where
   row_dearer : place_refusal rows seats cell ≡ None → (row : Row) → chosen f seats cell rows ≡ Some row → floor_cost f (seated f seats cell row) ≡ floor_cost f seats + rise f seats cell row
   row_dearer none row is =
       let good = chosen_good f rows seats cell row is in

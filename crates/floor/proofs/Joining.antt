@@ -6,7 +6,7 @@ use Rattle.std.proofs.lemmas.List.Sums.{prefix_len-le-length}
 use Rattle.std.proofs.lemmas.Bool.{and_from, and_cases, not-true, or_parts, or_left, or_right, leb-true, ltb-true, both_ways, cases_Bool}
 use Rattle.std.specs.Option.{option_map}
 use Rattle.std.specs.List.{AllByRecursion}
-use Rattle.measure.specs.Costs.{Fair}
+use Rattle.measure.specs.Costs.{Fair, Price}
 use Rattle.row.specs.Records.{check, cell_fault, before, row_ahead, widths}
 use Rattle.row.specs.Stack.{Passes, Ready}
 use Rattle.row.specs.declared.Cell.{Cell}
@@ -144,7 +144,7 @@ module _ (row : Row) (cell : Cell) (seats : List Seat) where
       row_accepts rows row (joined row cell seats) (joined_listed rows listed standing can) standing (omega arith) (omega arith)
 
 -- a floor is well formed once a cell has joined a row that has sites for it
-pub seated_formed : (price : ℕ → ℕ → ℕ → ℕ) → Fair price → (rows : List Row) (seats : List Seat) (cell : Cell) (row : Row) → formed rows seats ≡ true → Placeable seats cell → Standing rows row → has_sites seats cell row ≡ true → formed rows (seated price seats cell row) ≡ true
+pub seated_formed : (price : Price) → Fair price → (rows : List Row) (seats : List Seat) (cell : Cell) (row : Row) → formed rows seats ≡ true → Placeable seats cell → Standing rows row → has_sites seats cell row ≡ true → formed rows (seated price seats cell row) ≡ true
 seated_formed price fair rows seats cell row well can standing sites =
     let listed = formed_listed rows seats well in
     settled_formed price fair row (joined row cell seats) (ready_fitting row (cells_on row (joined row cell seats)) (joined_ready row cell seats rows listed standing can sites)) rows (joined_listed row cell seats rows listed standing can) standing
@@ -176,7 +176,7 @@ row_fits rows seats row well standing =
 pub standing_fitting : (rows : List Row) (seats : List Seat) (row : Row) → formed rows seats ≡ true → Standing rows row → Fitting row (cells_on row seats)
 standing_fitting rows seats row well standing = row_fitting rows row seats (formed_listed rows seats well) standing (row_fits rows seats row well standing)
 
-pub set_formed : (price : ℕ → ℕ → ℕ → ℕ) → Fair price → (rows : List Row) (seats : List Seat) (row : Row) → formed rows seats ≡ true → Standing rows row → formed rows (settled price row seats) ≡ true
+pub set_formed : (price : Price) → Fair price → (rows : List Row) (seats : List Seat) (row : Row) → formed rows seats ≡ true → Standing rows row → formed rows (settled price row seats) ≡ true
 set_formed price fair rows seats row well standing =
     settled_formed price fair row seats (standing_fitting rows seats row well standing) rows (formed_listed rows seats well) standing (λ r other. formed_sited rows seats well r)
 

@@ -3,7 +3,7 @@ use Rattle.std.proofs.Common.{◌≡◌, ℕ, true, false, List, [], get_or, map
 use Rattle.std.proofs.ByRecursion.{All-get_or, All-from_get_or, All-weaker}
 use Rattle.std.proofs.lemmas.Bool.{cases_Bool}
 use Rattle.std.specs.List.{AllByRecursion}
-use Rattle.measure.specs.Costs.{Fair}
+use Rattle.measure.specs.Costs.{Fair, Price}
 use Rattle.row.specs.Records.{row_ahead}
 use Rattle.row.specs.Sites.{row_sites}
 use Rattle.row.specs.declared.Cell.{Cell}
@@ -31,7 +31,7 @@ use Rattle.floor.proofs.Rowed.{apart_new, ranged_new, shared_same}
 use Rattle.floor.proofs.Settling.{sites_long}
 
 -- a row is set: its sites are those that `set` gives its cells
-abbrev pub IsSet : (ℕ → ℕ → ℕ → ℕ) → List Seat → Row → Type 0
+abbrev pub IsSet : Price → List Seat → Row → Type 0
 IsSet f seats row = sites_on row seats ≡ row_sites f row (cells_on row seats)
 
 -- what holds of standing rows, and so of all
@@ -40,12 +40,12 @@ all_standing P Q rows give all =
     All-from_get_or Q rows no_row (λ i within. give (get_or rows i no_row) (standing_at rows i no_row within) (All-get_or P rows i no_row within all))
 
 -- a row with the seats that it had is set as it was
-set_same : (f : ℕ → ℕ → ℕ → ℕ) (row : Row) (before after : List Seat) → seats_on row after ≡ seats_on row before → IsSet f before row → IsSet f after row
+set_same : (f : Price) (row : Row) (before after : List Seat) → seats_on row after ≡ seats_on row before → IsSet f before row → IsSet f after row
 set_same f row before after same is =
     ap (map (λ s. s.site)) same ∙ (is ∙ sym (ap (λ l. row_sites f row (map (λ s. s.cell) l)) same))
 
 -- a standing row is set, and the other rows have the seats that they had: a floor that was set is set then
-module _ (f : ℕ → ℕ → ℕ → ℕ) (fair : Fair f) (rows : List Row) (before after : List Seat) (row : Row) (fits : Fitting row (cells_on row after)) (others : (r : Row) → same_row r row ≡ false → seats_on r after ≡ seats_on r before) where
+module _ (f : Price) (fair : Fair f) (rows : List Row) (before after : List Seat) (row : Row) (fits : Fitting row (cells_on row after)) (others : (r : Row) → same_row r row ≡ false → seats_on r after ≡ seats_on r before) where
   -- the row is set
   own_set : IsSet f (settled f row after) row
   own_set =
@@ -66,7 +66,7 @@ module _ (f : ℕ → ℕ → ℕ → ℕ) (fair : Fair f) (rows : List Row) (be
       (cases_Bool (same_row r row)))
       set
 
-module _ (f : ℕ → ℕ → ℕ → ℕ) (fair : Fair f) (rows : List Row) (seats : List Seat) (well : formed rows seats ≡ true) (set : Settled f rows seats) where
+module _ (f : Price) (fair : Fair f) (rows : List Row) (seats : List Seat) (well : formed rows seats ≡ true) (set : Settled f rows seats) where
   pub seated_settled : (cell : Cell) → place_refusal rows seats cell ≡ None → (row : Row) → Standing rows row → has_sites seats cell row ≡ true → Settled f rows (seated f seats cell row)
   seated_settled cell none row stands fits =
       let can = placeable seats cell (free_cell rows seats cell none) in
@@ -85,7 +85,7 @@ module _ (f : ℕ → ℕ → ℕ → ℕ) (fair : Fair f) (rows : List Row) (se
   pub place_settled : (cell : Cell) → Settled f rows (seats_after_place f rows seats cell)
   place_settled cell = after_settled cell (place_refusal rows seats cell) refl
 
-module _ (f : ℕ → ℕ → ℕ → ℕ) (rows : List Row) (seats : List Seat) (well : formed rows seats ≡ true) (set : Settled f rows seats) where
+module _ (f : Price) (rows : List Row) (seats : List Seat) (well : formed rows seats ≡ true) (set : Settled f rows seats) where
   -- no seat is on a new row
   none_on : (row : Row) → add_refusal rows row ≡ None → seats_on row seats ≡ []
   none_on row none =

@@ -5,7 +5,7 @@ use Rattle.std.proofs.lemmas.Bool.{and_parts, and_from, both_ways, eqb-true, eq-
 use Rattle.std.proofs.lemmas.List.Sums.{length-filter, count_by-le-length}
 use Rattle.std.proofs.lemmas.Option.{same_Some}
 use Rattle.std.specs.List.{AllByRecursion, list_all}
-use Rattle.measure.specs.Costs.{Fair}
+use Rattle.measure.specs.Costs.{Fair, Price}
 use Rattle.row.specs.Stack.{Ready}
 use Rattle.row.specs.declared.Row.{Row}
 use Rattle.table.proofs.Inserted.{Pairs}
@@ -86,12 +86,12 @@ module _ (rows : List Row) (seats : List Seat) (well : formed rows seats ≡ tru
       seats (found_only number seats s (formed_listed rows seats well).differ found))
 
 -- what is known of a seat that is found by its number
-pub record Found (f : ℕ → ℕ → ℕ → ℕ) (seats : List Seat) (number : ℕ) (s : Seat) : Type 0 where
+pub record Found (f : Price) (seats : List Seat) (number : ℕ) (s : Seat) : Type 0 where
   pub ready : Ready s.row (cells_on s.row (without s.cell.number seats))
   pub after : settled f s.row (without s.cell.number seats) ≡ seats_after_withdraw f seats number
 
 -- from what the program looked up
-pub found_known : (f : ℕ → ℕ → ℕ → ℕ) (rows : List Row) (seats : List Seat) (number : ℕ) (s : Seat) {looked : Option Seat} {count : ℕ} → formed rows seats ≡ true → count ≤ 1024 → count ≡ length seats → looked ≡ seat_of number seats → looked ≡ Some s → Found f seats number s
+pub found_known : (f : Price) (rows : List Row) (seats : List Seat) (number : ℕ) (s : Seat) {looked : Option Seat} {count : ℕ} → formed rows seats ≡ true → count ≤ 1024 → count ≡ length seats → looked ≡ seat_of number seats → looked ≡ Some s → Found f seats number s
 found_known f rows seats number s well few counted finds some =
     let found = sym finds ∙ some in
     let number_is = found_number number seats s found in
@@ -100,7 +100,7 @@ found_known f rows seats number s well few counted finds some =
       after = ap (λ n. settled f s.row (without n seats)) number_is ∙ sym (ap (seats_less f seats number) found);
     }
 
-module _ (f : ℕ → ℕ → ℕ → ℕ) (fair : Fair f) (rows : List Row) (seats : List Seat) (well : formed rows seats ≡ true) where
+module _ (f : Price) (fair : Fair f) (rows : List Row) (seats : List Seat) (well : formed rows seats ≡ true) where
   -- by what is found of a number: a floor stays well formed once that seat is taken out and its row set ..
   less_formed : (number : ℕ) (o : Option Seat) → seat_of number seats ≡ o → formed rows (seats_less f seats number o) ≡ true
   less_formed number None is = well
@@ -115,9 +115,9 @@ module _ (f : ℕ → ℕ → ℕ → ℕ) (fair : Fair f) (rows : List Row) (se
       (formed_listed rows seats well).well stands set
 
 -- a floor stays well formed when a cell is withdrawn
-pub withdraw_formed : (f : ℕ → ℕ → ℕ → ℕ) → Fair f → (rows : List Row) (seats : List Seat) → formed rows seats ≡ true → (number : ℕ) → formed rows (seats_after_withdraw f seats number) ≡ true
+pub withdraw_formed : (f : Price) → Fair f → (rows : List Row) (seats : List Seat) → formed rows seats ≡ true → (number : ℕ) → formed rows (seats_after_withdraw f seats number) ≡ true
 withdraw_formed f fair rows seats well number = less_formed f fair rows seats well number (seat_of number seats) refl
 
 -- and one whose rows are set stays so
-pub withdraw_settled : (f : ℕ → ℕ → ℕ → ℕ) → Fair f → (rows : List Row) (seats : List Seat) → formed rows seats ≡ true → Settled f rows seats → (number : ℕ) → Settled f rows (seats_after_withdraw f seats number)
+pub withdraw_settled : (f : Price) → Fair f → (rows : List Row) (seats : List Seat) → formed rows seats ≡ true → Settled f rows seats → (number : ℕ) → Settled f rows (seats_after_withdraw f seats number)
 withdraw_settled f fair rows seats well set number = less_settled f fair rows seats well set number (seat_of number seats) refl

@@ -5,7 +5,7 @@ use Rattle.std.proofs.ByRecursion.{All-weaker}
 use Rattle.std.proofs.lemmas.Option.{same_Some}
 use Rattle.std.specs.List.{AllByRecursion, list_any}
 use Rattle.std.specs.Option.{option_map, ok_or}
-use Rattle.measure.specs.Costs.{Fair}
+use Rattle.measure.specs.Costs.{Fair, Price}
 use Rattle.row.specs.Records.{check, then}
 use Rattle.row.specs.Sites.{row_sites}
 use Rattle.row.specs.Stack.{Ready}
@@ -40,7 +40,7 @@ is_row_self row = grind arith
 later : (first : Row) (rows : List Row) (seats : List Seat) (cell : Cell) (row : Row) → Good rows seats cell row → Good (first ∷ rows) seats cell row
 later first rows seats cell row g = record { stands = or_right (is_row row first) (list_any (is_row row) rows) g.stands; fits = g.fits }
 
-better_good : (f : ℕ → ℕ → ℕ → ℕ) (first : Row) (rows : List Row) (seats : List Seat) (cell : Cell) (row : Row) (o : Option Row) → has_sites seats cell first ≡ true → ((r : Row) → o ≡ Some r → Good rows seats cell r) → better (rise f seats cell) first o ≡ Some row → Good (first ∷ rows) seats cell row
+better_good : (f : Price) (first : Row) (rows : List Row) (seats : List Seat) (cell : Cell) (row : Row) (o : Option Row) → has_sites seats cell first ≡ true → ((r : Row) → o ≡ Some r → Good rows seats cell r) → better (rise f seats cell) first o ≡ Some row → Good (first ∷ rows) seats cell row
 better_good f first rows seats cell row None fits rest e =
     subst (Good (first ∷ rows) seats cell) (same_Some first row e) (record { stands = or_left (is_row first first) (list_any (is_row first) rows) (is_row_self first); fits = fits })
 better_good f first rows seats cell row (Some other) fits rest e = by_test (leb (rise f seats cell first) (rise f seats cell other)) e
@@ -49,11 +49,11 @@ better_good f first rows seats cell row (Some other) fits rest e = by_test (leb 
     by_test true h = subst (Good (first ∷ rows) seats cell) (same_Some first row h) (record { stands = or_left (is_row first first) (list_any (is_row first) rows) (is_row_self first); fits = fits })
     by_test false h = later first rows seats cell row (rest row h)
 
-by_sites : (f : ℕ → ℕ → ℕ → ℕ) (first : Row) (rows : List Row) (seats : List Seat) (cell : Cell) (row : Row) (t : Bool) → has_sites seats cell first ≡ t → ((r : Row) → chosen f seats cell rows ≡ Some r → Good rows seats cell r) → cond t (better (rise f seats cell) first (chosen f seats cell rows)) (chosen f seats cell rows) ≡ Some row → Good (first ∷ rows) seats cell row
+by_sites : (f : Price) (first : Row) (rows : List Row) (seats : List Seat) (cell : Cell) (row : Row) (t : Bool) → has_sites seats cell first ≡ t → ((r : Row) → chosen f seats cell rows ≡ Some r → Good rows seats cell r) → cond t (better (rise f seats cell) first (chosen f seats cell rows)) (chosen f seats cell rows) ≡ Some row → Good (first ∷ rows) seats cell row
 by_sites f first rows seats cell row true fits rest e = better_good f first rows seats cell row (chosen f seats cell rows) fits rest e
 by_sites f first rows seats cell row false fits rest e = later first rows seats cell row (rest row e)
 
-pub chosen_good : (f : ℕ → ℕ → ℕ → ℕ) (rows : List Row) (seats : List Seat) (cell : Cell) (row : Row) → chosen f seats cell rows ≡ Some row → Good rows seats cell row
+pub chosen_good : (f : Price) (rows : List Row) (seats : List Seat) (cell : Cell) (row : Row) → chosen f seats cell rows ≡ Some row → Good rows seats cell row
 chosen_good f [] seats cell row e = let never : ◌≡◌ {A = ℕ} 0 1 = cc in absurd (omega arith)
 chosen_good f (first ∷ rows) seats cell row e = by_sites f first rows seats cell row (has_sites seats cell first) refl (λ r. chosen_good f rows seats cell r) e
 
@@ -62,7 +62,7 @@ any_by : (seats : List Seat) (cell : Cell) (first : Row) (rows : List Row) (t : 
 any_by seats cell first rows true fits rest = or_left (has_sites seats cell first) (list_any (has_sites seats cell) rows) fits
 any_by seats cell first rows false fits rest = or_right (has_sites seats cell first) (list_any (has_sites seats cell) rows) (rest refl)
 
-pub chosen_any : (f : ℕ → ℕ → ℕ → ℕ) (rows : List Row) (seats : List Seat) (cell : Cell) (row : Row) → chosen f seats cell rows ≡ Some row → list_any (has_sites seats cell) rows ≡ true
+pub chosen_any : (f : Price) (rows : List Row) (seats : List Seat) (cell : Cell) (row : Row) → chosen f seats cell rows ≡ Some row → list_any (has_sites seats cell) rows ≡ true
 chosen_any f [] seats cell row e = let never : ◌≡◌ {A = ℕ} 0 1 = cc in absurd (omega arith)
 chosen_any f (first ∷ rows) seats cell row e =
     any_by seats cell first rows (has_sites seats cell first) refl
@@ -94,7 +94,7 @@ stands_found number (s ∷ seats) e = by_test (eqb s.cell.number number) e (stan
     by_test true e rest = refl
     by_test false e rest = rest e
 
-pub seated_found : (f : ℕ → ℕ → ℕ → ℕ) (seats : List Seat) (cell : Cell) (row : Row) → IsSome (seat_of cell.number (seated f seats cell row))
+pub seated_found : (f : Price) (seats : List Seat) (cell : Cell) (row : Row) → IsSome (seat_of cell.number (seated f seats cell row))
 seated_found f seats cell row =
     let all : List Seat = joined row cell seats in
     let sites = row_sites f row (cells_on row all) in
@@ -113,7 +113,7 @@ found_has P number (t ∷ seats) s all e = by_test (eqb t.cell.number number) re
     by_test false is rest h = rest h
 
 -- the seat that is found by the number of a new cell is on the row that took it
-pub seated_row : (f : ℕ → ℕ → ℕ → ℕ) (seats : List Seat) (cell : Cell) (row : Row) (s : Seat) → stands cell.number seats ≡ false → seat_of cell.number (seated f seats cell row) ≡ Some s → s.row ≡ row
+pub seated_row : (f : Price) (seats : List Seat) (cell : Cell) (row : Row) (s : Seat) → stands cell.number seats ≡ false → seat_of cell.number (seated f seats cell row) ≡ Some s → s.row ≡ row
 seated_row f seats cell row s fresh found =
     let k : Seat = new_seat row cell in
     let all : List Seat = joined row cell seats in
@@ -123,7 +123,7 @@ seated_row f seats cell row s fresh found =
     found_has (λ t. t.row ≡ row) cell.number (seated f seats cell row) s (resited_all row P (λ t x h. h) (row_sites f row (cells_on row all)) all each) found
 
 -- what is known once a row is chosen for a cell that no other check refuses
-pub record Chose (f : ℕ → ℕ → ℕ → ℕ) (rows : List Row) (seats : List Seat) (cell : Cell) (choice : Choice) : Type 0 where
+pub record Chose (f : Price) (rows : List Row) (seats : List Seat) (cell : Cell) (choice : Choice) : Type 0 where
   pub is : chosen f seats cell rows ≡ Some choice.row
   pub rises : choice.rise ≡ rise f seats cell choice.row
   pub site : choice.site ≡ site_then cell.number (seated f seats cell choice.row)
@@ -132,10 +132,10 @@ pub record Chose (f : ℕ → ℕ → ℕ → ℕ) (rows : List Row) (seats : Li
   pub ready : Ready choice.row (cells_on choice.row (joined choice.row cell seats))
   pub well : formed rows (seated f seats cell choice.row) ≡ true
 
-choice_is : (f : ℕ → ℕ → ℕ → ℕ) (seats : List Seat) (cell : Cell) (choice : Choice) (row : Row) → Ok choice ≡ ok_or {E = Refusal} (Some (choice_of f seats cell row)) NoRoom → choice ≡ choice_of f seats cell row
+choice_is : (f : Price) (seats : List Seat) (cell : Cell) (choice : Choice) (row : Row) → Ok choice ≡ ok_or {E = Refusal} (Some (choice_of f seats cell row)) NoRoom → choice ≡ choice_of f seats cell row
 choice_is f seats cell choice row e = cc
 
-pub chose : {f : ℕ → ℕ → ℕ → ℕ} (fair : Fair f) (rows : List Row) (seats : List Seat) (cell : Cell) {choice : Choice} {given : Option Choice} → formed rows seats ≡ true → None ≡ cell_refusal seats cell → Ok choice ≡ ok_or given NoRoom → given ≡ option_map (choice_of f seats cell) (chosen f seats cell rows) → Chose f rows seats cell choice
+pub chose : {f : Price} (fair : Fair f) (rows : List Row) (seats : List Seat) (cell : Cell) {choice : Choice} {given : Option Choice} → formed rows seats ≡ true → None ≡ cell_refusal seats cell → Ok choice ≡ ok_or given NoRoom → given ≡ option_map (choice_of f seats cell) (chosen f seats cell rows) → Chose f rows seats cell choice
 chose {f} fair rows seats cell {choice} {given} well free taken told = by_row (chosen f seats cell rows) refl (taken ∙ ap (λ o. ok_or o NoRoom) told)
   where
     by_row : (o : Option Row) → chosen f seats cell rows ≡ o → Ok choice ≡ ok_or (option_map (choice_of f seats cell) o) NoRoom → Chose f rows seats cell choice
@@ -158,12 +158,12 @@ chose {f} fair rows seats cell {choice} {given} well free taken told = by_row (c
         }
 
 -- what placing answers then
-pub placing_is : {f : ℕ → ℕ → ℕ → ℕ} (rows : List Row) (seats : List Seat) (cell : Cell) (choice : Choice) → Chose f rows seats cell choice → Ok (placing_of choice) ≡ place_answer f rows seats cell
+pub placing_is : {f : Price} (rows : List Row) (seats : List Seat) (cell : Cell) (choice : Choice) → Chose f rows seats cell choice → Ok (placing_of choice) ≡ place_answer f rows seats cell
 placing_is {f} rows seats cell choice known =
     (λ i. Ok (record { spot = record { line = choice.row.line; site = known.site i }; rise = known.rises i }))
     ∙ sym (ap (λ o. refused_or o (placed_on f seats cell (chosen f seats cell rows))) known.granted ∙ ap (placed_on f seats cell) known.is)
 
 -- and the seats then
-pub seats_then : {f : ℕ → ℕ → ℕ → ℕ} (rows : List Row) (seats : List Seat) (cell : Cell) (choice : Choice) → Chose f rows seats cell choice → seated f seats cell choice.row ≡ seats_after_place f rows seats cell
+pub seats_then : {f : Price} (rows : List Row) (seats : List Seat) (cell : Cell) (choice : Choice) → Chose f rows seats cell choice → seated f seats cell choice.row ≡ seats_after_place f rows seats cell
 seats_then {f} rows seats cell choice known =
     sym (ap (λ o. changed o (seated_on f seats cell (chosen f seats cell rows)) seats) known.granted ∙ ap (seated_on f seats cell) known.is)

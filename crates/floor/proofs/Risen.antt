@@ -2,21 +2,22 @@
 use Rattle.std.proofs.Common.{◌≡◌, ℕ, ◌+◌, ◌≤◌, Bool, true, false, cond, List, [], ◌∷◌, ◌++◌, map, length, take, drop, refl, ap, ◌∙◌, subst, arith}
 use Rattle.std.proofs.lemmas.List.{take-append-drop, map-append}
 use Rattle.std.specs.List.{insert}
-use Rattle.measure.specs.Costs.{Fair}
-use Rattle.row.specs.Sites.{row_sites, sites_cost}
+use Rattle.measure.specs.Costs.{Fair, Price}
+use Rattle.row.specs.Costs.{sites_cost}
+use Rattle.row.specs.Sites.{row_sites}
 use Rattle.row.specs.Stack.{Passes, Ready}
 use Rattle.row.specs.declared.Cell.{Cell}
 use Rattle.row.specs.declared.Row.{Row}
 use Rattle.row.proofs.Accepted.{accepted}
 use Rattle.row.proofs.Fewer.{fewer_costs}
 use Rattle.floor.specs.Calls.{rise, seated}
-use Rattle.floor.specs.Seats.{site_cost, cell_of, site_of, on_row, seats_on, cells_on, sites_on, new_seat, joined, resited, row_cost, floor_cost}
+use Rattle.floor.specs.Seats.{seat_cost, cell_of, site_of, on_row, seats_on, cells_on, sites_on, new_seat, joined, resited, row_cost, floor_cost}
 use Rattle.floor.specs.declared.Seat.{Seat}
 use Rattle.floor.proofs.Joining.{place, joined_on}
 use Rattle.floor.proofs.Kept.{kept_yes, kept_no, kept_parts}
 use Rattle.floor.proofs.Rising.{seated_cost}
 
-module _ (f : ℕ → ℕ → ℕ → ℕ) where
+module _ (f : Price) where
   -- the cost of the line of a seat, and of the sites of seats
   abbrev up : Seat → ℕ
   up s = f s.cell.wanted.line s.cell.weight s.row.line
@@ -33,7 +34,7 @@ module _ (f : ℕ → ℕ → ℕ → ℕ) where
   floor-append (s ∷ ss) ts = let rest = floor-append ss ts in omega arith
 
   -- a seat on the row counts, one on another does not
-  row_more : (row : Row) (s : Seat) (seats : List Seat) → on_row row s ≡ true → row_cost f row (s ∷ seats) ≡ site_cost f s + row_cost f row seats
+  row_more : (row : Row) (s : Seat) (seats : List Seat) → on_row row s ≡ true → row_cost f row (s ∷ seats) ≡ seat_cost f s + row_cost f row seats
   row_more row s seats on = ap all_across (kept_yes (on_row row) s seats on)
 
   row_same : (row : Row) (s : Seat) (seats : List Seat) → on_row row s ≡ false → row_cost f row (s ∷ seats) ≡ row_cost f row seats
@@ -61,7 +62,7 @@ module _ (f : ℕ → ℕ → ℕ → ℕ) where
   resited_cost row (x ∷ xs) (s ∷ seats) = resited_turn row x xs s seats (on_row row s) refl (resited_cost row xs seats) (resited_cost row (x ∷ xs) seats)
 
   -- a seat more costs what it costs
-  inserted_cost : (seats : List Seat) (n : ℕ) (s : Seat) → floor_cost f (insert seats n s) ≡ floor_cost f seats + (site_cost f s + up s)
+  inserted_cost : (seats : List Seat) (n : ℕ) (s : Seat) → floor_cost f (insert seats n s) ≡ floor_cost f seats + (seat_cost f s + up s)
   inserted_cost seats n s =
       let new = floor-append (take n seats) (s ∷ drop n seats) in
       let old = floor-append (take n seats) (drop n seats) in
@@ -75,7 +76,7 @@ module _ (f : ℕ → ℕ → ℕ → ℕ) where
     abbrev back : List Seat
     back = seats_on row (drop (place row cell seats) seats)
 
-    joined_row_cost : row_cost f row (joined row cell seats) ≡ row_cost f row seats + site_cost f (new_seat row cell)
+    joined_row_cost : row_cost f row (joined row cell seats) ≡ row_cost f row seats + seat_cost f (new_seat row cell)
     joined_row_cost =
         let new = ap all_across (joined_on row cell seats) in
         let old = ap all_across (kept_parts (on_row row) (place row cell seats) seats) in

@@ -1,8 +1,9 @@
 -- The rise of a row, as the program adds it up.
 use Rattle.std.proofs.Common.{◌≡◌, ℕ, ◌*◌, ◌^◌, ◌≤◌, List, [], ◌∷◌, length, ap, ◌∙◌, arith}
 use Rattle.std.specs.List.{AllByRecursion}
-use Rattle.measure.specs.Costs.{Fair, cost_of}
-use Rattle.row.specs.Sites.{row_sites, sites_cost}
+use Rattle.measure.specs.Costs.{Fair, Price, cost_of}
+use Rattle.row.specs.Costs.{sites_cost}
+use Rattle.row.specs.Sites.{row_sites}
 use Rattle.row.specs.Stack.{Passes, Ready}
 use Rattle.row.specs.declared.Cell.{Cell}
 use Rattle.row.specs.declared.Row.{Row}
@@ -18,7 +19,7 @@ use Rattle.floor.proofs.Resited.{resited_cells_on, resited_sites_on}
 use Rattle.floor.proofs.Settling.{sites_long}
 
 -- cells at places cost at most 2^42 each
-pub cost_bounded : {f : ℕ → ℕ → ℕ → ℕ} → Fair f → (cs : List Cell) (ys : List ℕ) → AllByRecursion Passes cs → AllByRecursion (λ y. y ≤ 65535) ys → sites_cost f cs ys ≤ 2 ^ 42 * length cs
+pub cost_bounded : {f : Price} → Fair f → (cs : List Cell) (ys : List ℕ) → AllByRecursion Passes cs → AllByRecursion (λ y. y ≤ 65535) ys → sites_cost f cs ys ≤ 2 ^ 42 * length cs
 cost_bounded fair [] ys pass places = omega arith
 cost_bounded fair (c ∷ cs) [] pass places = omega arith
 cost_bounded fair (c ∷ cs) (y ∷ ys) pass places =
@@ -26,7 +27,7 @@ cost_bounded fair (c ∷ cs) (y ∷ ys) pass places =
     let more = cost_bounded fair cs ys pass.1 places.1 in
     omega arith
 
-module _ {f : ℕ → ℕ → ℕ → ℕ} (fair : Fair f) (seats : List Seat) (row : Row) (cell : Cell) (ready : Ready row (cells_on row (joined row cell seats))) where
+module _ {f : Price} (fair : Fair f) (seats : List Seat) (row : Row) (cell : Cell) (ready : Ready row (cells_on row (joined row cell seats))) where
   abbrev cs : List Cell
   cs = cells_on row (joined row cell seats)
 

@@ -7,7 +7,7 @@ use Rattle.std.proofs.lemmas.Bool.{and_parts, and_from, or_cases, le-leb, eq-eqb
 use Rattle.std.specs.Option.{option_map}
 use Rattle.std.specs.List.{between, AllByRecursion}
 use borrow.Rule.Slice.PartMut.{put_mid}
-use Rattle.measure.specs.Costs.{Fair}
+use Rattle.measure.specs.Costs.{Fair, Price}
 use Rattle.std.specs.declared.ops.Range.{Range}
 use Rattle.row.specs.Records.{check, then, cell_fault, row_fault, before, row_ahead, widths}
 use Rattle.row.specs.Refusals.{comes_after, next_refusal, cells_refusal}
@@ -115,7 +115,7 @@ row_fitting rows row seats listed stands room = record {
     every_two R (x ∷ xs) h = (h.0, every_two R xs h.1)
 
 -- the cells of a chain start behind each other
-module _ (f : ℕ → ℕ → ℕ → ℕ) (row : Row) where
+module _ (f : Price) (row : Row) where
   chain_from : (cs : List Cell) (ys : List ℕ) (lo : ℕ) → Chain (lane f row) lo cs ys → AllByRecursion (λ p. lo ≤ p.site) (placed cs ys)
   chain_from [] ys lo chain = tt
   chain_from (c ∷ cs) [] lo chain = tt
@@ -133,7 +133,7 @@ module _ (f : ℕ → ℕ → ℕ → ℕ) (row : Row) where
       )
 
 -- the sites of a row whose cells fit it: one for each, within the row, each behind those before it
-module _ (price : ℕ → ℕ → ℕ → ℕ) (fair : Fair price) (row : Row) (seats : List Seat) (fits : Fitting row (cells_on row seats)) where
+module _ (price : Price) (fair : Fair price) (row : Row) (seats : List Seat) (fits : Fitting row (cells_on row seats)) where
   abbrev cells : List Cell
   cells = cells_on row seats
 
@@ -154,12 +154,12 @@ module _ (price : ℕ → ℕ → ℕ → ℕ) (fair : Fair price) (row : Row) (
   settled_formed rows listed stands others = resited_formed rows row (row_sites price row cells) seats listed stands others sites_long sites_within sites_behind
 
 -- a row set by the program: its cells gathered, their sites found, and its seats moved to them in the table
-pub record Set (price : ℕ → ℕ → ℕ → ℕ) (row : Row) (seats new : List Seat) : Type 0 where
+pub record Set (price : Price) (row : Row) (seats new : List Seat) : Type 0 where
   pub is : new ≡ settled price row seats
   pub ordered : Ordered seat_ahead new
   pub sited : AllByRecursion OfTable new
 
-pub set_row : {f : ℕ → ℕ → ℕ → ℕ} (fair : Fair f) (row : Row) (seats : List Seat) {looked slice moved : List Seat} {none gathered cells : List Cell} {sites : List ℕ} (r : Range ℕ) {n : ℕ} → Ready row (cells_on row seats) → Ordered seat_ahead seats → AllByRecursion OfTable seats → Spanned row seats r →
+pub set_row : {f : Price} (fair : Fair f) (row : Row) (seats : List Seat) {looked slice moved : List Seat} {none gathered cells : List Cell} {sites : List ℕ} (r : Range ℕ) {n : ℕ} → Ready row (cells_on row seats) → Ordered seat_ahead seats → AllByRecursion OfTable seats → Spanned row seats r →
     none ≡ [] → looked ≡ seats → gathered ≡ none ++ map cell_of (between r.start r.end looked) → cells ≡ gathered → sites ≡ row_sites f row cells → slice ≡ seats → moved ≡ moved_all sites (between r.start r.end slice) → n ≡ length seats →
     Set f row seats (take n (put_mid r.start (r.end - r.start) slice moved ++ drop (length (put_mid r.start (r.end - r.start) slice moved)) seats))
 set_row {f} fair row seats {looked} {slice} {moved} {none} {gathered} {cells} {sites} r {n} ready ordered sited own empty look gather same set slices move long =

@@ -4,8 +4,9 @@ use Rattle.std.proofs.ByRecursion.{All-weaker, all_kept_by}
 use Rattle.std.proofs.lemmas.Bool.{cond-true, cond-false, cond_both, cases_Bool, both_ways, false_from_ne_true, not_from_false, eq-eqb}
 use Rattle.std.specs.List.{prefix_len, AllByRecursion}
 use Rattle.std.specs.Option.{option_map, unwrap_or}
-use Rattle.measure.specs.Costs.{Fair}
-use Rattle.row.specs.Sites.{row_sites, sites_cost}
+use Rattle.measure.specs.Costs.{Fair, Price}
+use Rattle.row.specs.Costs.{sites_cost}
+use Rattle.row.specs.Sites.{row_sites}
 use Rattle.row.specs.Stack.{Ready}
 use Rattle.row.specs.declared.Cell.{Cell}
 use Rattle.row.specs.declared.Row.{Row}
@@ -85,7 +86,7 @@ module _ (row : Row) (number : ℕ) where
       off_turn (x ∷ xs) s seats off own.0 (cond-false (on_row row s) (moved s x ∷ resited row xs seats) (s ∷ resited row (x ∷ xs) seats) off) (site_of_number (x ∷ xs) seats (omega arith) own.1))
       (cases_Bool (on_row row s))
 
-module _ {f : ℕ → ℕ → ℕ → ℕ} (fair : Fair f) (row : Row) (cell : Cell) (seats : List Seat) (ready : Ready row (cells_on row (joined row cell seats))) (ordered : Ordered seat_ahead seats) (fresh : stands cell.number seats ≡ false) where
+module _ {f : Price} (fair : Fair f) (row : Row) (cell : Cell) (seats : List Seat) (ready : Ready row (cells_on row (joined row cell seats))) (ordered : Ordered seat_ahead seats) (fresh : stands cell.number seats ≡ false) where
   -- the place of the new cell among those of its row
   abbrev place : ℕ
   place = rank_of seat_ahead (seats_on row seats) (new_seat row cell)
@@ -116,7 +117,7 @@ module _ {f : ℕ → ℕ → ℕ → ℕ} (fair : Fair f) (row : Row) (cell : C
       sym (site_of_number row cell.number sites (joined row cell seats) long own ∙ ap (λ n. get_or sites n 0) place_is)
 
 -- what a trial answers, as the program comes to it
-pub trial_is : {f : ℕ → ℕ → ℕ → ℕ} (fair : Fair f) (row : Row) (cell : Cell) (seats : List Seat) {slice : List Seat} {cells : List Cell} {sites : List ℕ} {at cost : ℕ} → Ready row (cells_on row (joined row cell seats)) → Ordered seat_ahead seats → stands cell.number seats ≡ false →
+pub trial_is : {f : Price} (fair : Fair f) (row : Row) (cell : Cell) (seats : List Seat) {slice : List Seat} {cells : List Cell} {sites : List ℕ} {at cost : ℕ} → Ready row (cells_on row (joined row cell seats)) → Ordered seat_ahead seats → stands cell.number seats ≡ false →
     cells ≡ cells_on row (joined row cell seats) → cost ≡ sites_cost f cells (row_sites f row cells) → sites ≡ row_sites f row cells → slice ≡ seats_on row seats → at ≡ rank_of seat_ahead slice (new_seat row cell) →
     record { cost = cost; site = get_or sites at 0 } ≡ trial_on f seats cell row
 trial_is {f} fair row cell seats ready ordered fresh gather costs set own finds =

@@ -10,6 +10,8 @@
 use Rattle.std.specs.Prelude.{ℕ, ◌+◌, ◌-◌, not, cond, List, [], ◌∷◌, filter, Some, None, Ok, Err, Option, Result, nat_eq, nat_le}
 use Rattle.std.specs.List.{find, insert}
 use Rattle.std.specs.Option.{option_map, unwrap_or, ok_or}
+use Rattle.measure.specs.Costs.{Price}
+use Rattle.row.specs.Costs.{line_cost}
 use Rattle.row.specs.Records.{row_ahead}
 use Rattle.row.specs.declared.Cell.{Cell}
 use Rattle.row.specs.declared.Row.{Row}
@@ -44,13 +46,13 @@ abbrev pub where_answer : List Seat → ℕ → Result Spot Refusal
 where_answer seats number = ok_or (option_map spot (seat_of number seats)) NotStanding
 
 -- the seats with a cell on a row, and that row set
-abbrev pub seated : (ℕ → ℕ → ℕ → ℕ) → List Seat → Cell → Row → List Seat
+abbrev pub seated : Price → List Seat → Cell → Row → List Seat
 seated price seats cell row = settled price row (joined row cell seats)
 
 -- the rise of a row: the cost of its sites set with the new cell, less their cost now, plus the cost of its line
-abbrev pub rise : (ℕ → ℕ → ℕ → ℕ) → List Seat → Cell → Row → ℕ
+abbrev pub rise : Price → List Seat → Cell → Row → ℕ
 rise price seats cell row =
-    (row_cost price row (seated price seats cell row) - row_cost price row seats) + price cell.wanted.line cell.weight row.line
+    (row_cost price row (seated price seats cell row) - row_cost price row seats) + line_cost price cell row.line
 
 -- the better of a row and what is chosen of the rows after it: the row, unless a later one rises less
 abbrev pub better : (Row → ℕ) → Row → Option Row → Option Row
@@ -58,7 +60,7 @@ better rises row None = Some row
 better rises row (Some other) = cond (nat_le (rises row) (rises other)) (Some row) (Some other)
 
 -- the row of least rise among those that have sites; of equal ones the first
-abbrev pub chosen : (ℕ → ℕ → ℕ → ℕ) → List Seat → Cell → List Row → Option Row
+abbrev pub chosen : Price → List Seat → Cell → List Row → Option Row
 chosen price seats cell [] = None
 chosen price seats cell (row ∷ rows) =
     cond (has_sites seats cell row) (better (rise price seats cell) row (chosen price seats cell rows)) (chosen price seats cell rows)
@@ -73,21 +75,21 @@ abbrev pub site_then : ℕ → List Seat → ℕ
 site_then number seats = unwrap_or (option_map site_of (seat_of number seats)) 0
 
 -- what placing answers once a row is chosen: where the cell stands then, and the row's rise
-abbrev pub placed_on : (ℕ → ℕ → ℕ → ℕ) → List Seat → Cell → Option Row → Result Placing Refusal
+abbrev pub placed_on : Price → List Seat → Cell → Option Row → Result Placing Refusal
 placed_on price seats cell None = Err NoRoom
 placed_on price seats cell (Some row) = Ok (record { spot = record { line = row.line; site = site_then cell.number (seated price seats cell row) }; rise = rise price seats cell row })
 
 -- the answer of placing a cell
-abbrev pub place_answer : (ℕ → ℕ → ℕ → ℕ) → List Row → List Seat → Cell → Result Placing Refusal
+abbrev pub place_answer : Price → List Row → List Seat → Cell → Result Placing Refusal
 place_answer price rows seats cell = refused_or (place_refusal rows seats cell) (placed_on price seats cell (chosen price seats cell rows))
 
 -- the seats once a row is chosen
-abbrev pub seated_on : (ℕ → ℕ → ℕ → ℕ) → List Seat → Cell → Option Row → List Seat
+abbrev pub seated_on : Price → List Seat → Cell → Option Row → List Seat
 seated_on price seats cell None = seats
 seated_on price seats cell (Some row) = seated price seats cell row
 
 -- the seats once a cell is placed
-abbrev pub seats_after_place : (ℕ → ℕ → ℕ → ℕ) → List Row → List Seat → Cell → List Seat
+abbrev pub seats_after_place : Price → List Row → List Seat → Cell → List Seat
 seats_after_place price rows seats cell = changed (place_refusal rows seats cell) (seated_on price seats cell (chosen price seats cell rows)) seats
 
 -- the seats without that of a number
@@ -95,10 +97,10 @@ abbrev pub without : ℕ → List Seat → List Seat
 without number seats = filter (λ s. not (nat_eq s.cell.number number)) seats
 
 -- the seats once a seat, if there is one, is taken out by its number and its row set
-abbrev pub seats_less : (ℕ → ℕ → ℕ → ℕ) → List Seat → ℕ → Option Seat → List Seat
+abbrev pub seats_less : Price → List Seat → ℕ → Option Seat → List Seat
 seats_less price seats number None = seats
 seats_less price seats number (Some s) = settled price s.row (without number seats)
 
 -- the seats once a cell is withdrawn
-abbrev pub seats_after_withdraw : (ℕ → ℕ → ℕ → ℕ) → List Seat → ℕ → List Seat
+abbrev pub seats_after_withdraw : Price → List Seat → ℕ → List Seat
 seats_after_withdraw price seats number = seats_less price seats number (seat_of number seats)

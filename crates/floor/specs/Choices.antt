@@ -4,6 +4,7 @@
 --   choice_on         the same, where the row has sites for the cell
 --   placing_of        what placing a cell answers, by its choice
 use Rattle.std.specs.Prelude.{ℕ, cond, List, Some, None, Option}
+use Rattle.measure.specs.Costs.{Price}
 use Rattle.row.specs.declared.Cell.{Cell}
 use Rattle.row.specs.declared.Row.{Row}
 use Rattle.floor.specs.Calls.{rise, seated, site_then}
@@ -15,15 +16,15 @@ use Rattle.floor.specs.declared.choice.Choice.{Choice}
 use Rattle.floor.specs.declared.seats.trial.Trial.{Trial}
 
 -- what the sites of a row cost once it is set with a cell more, and the cell's site then
-abbrev pub trial_on : (ℕ → ℕ → ℕ → ℕ) → List Seat → Cell → Row → Trial
+abbrev pub trial_on : Price → List Seat → Cell → Row → Trial
 trial_on price seats cell row = let after = seated price seats cell row in record { cost = row_cost price row after; site = site_then cell.number after }
 
 -- a row, its rise, and the site that the cell gets there
-abbrev pub choice_of : (ℕ → ℕ → ℕ → ℕ) → List Seat → Cell → Row → Choice
+abbrev pub choice_of : Price → List Seat → Cell → Row → Choice
 choice_of price seats cell row = record { row = row; rise = rise price seats cell row; site = site_then cell.number (seated price seats cell row) }
 
 -- the same, where the row has sites for the cell
-abbrev pub choice_on : (ℕ → ℕ → ℕ → ℕ) → List Seat → Cell → Row → Option Choice
+abbrev pub choice_on : Price → List Seat → Cell → Row → Option Choice
 choice_on price seats cell row = cond (has_sites seats cell row) (Some (choice_of price seats cell row)) None
 
 -- what placing a cell answers, by its choice

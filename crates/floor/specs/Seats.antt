@@ -7,15 +7,17 @@
 --   Sited            that a seat's cell and site are within their ranges
 --   new_seat         a seat before its row is set; row_key: a seat that none of a row's is ahead of
 --   resited          the seats with the sites of a row's own rewritten; moved_all: seats at other sites, one after another
---   site_cost        what the site of a seat costs; row_cost: the cost of the sites of a row
+--   seat_cost        what the site of a seat costs; row_cost: the cost of the sites of a row
 --   joined           the seats with one more, for a cell on a row, in its place
 --   CanTake          that a row can be set with a cell more
 --   settled          the seats once a row is set: only the sites of its own seats are rewritten
 --   floor_cost       the cost of all seats: of their sites and of their lines
 use Rattle.std.specs.Prelude.{ℕ, ◌+◌, ◌≤◌, Bool, cond, ◌&&◌, ◌||◌, List, [], ◌∷◌, map, filter}
 use Rattle.std.specs.List.{insert}
+use Rattle.measure.specs.Costs.{Price}
 use Rattle.row.specs.Records.{before, row_ahead}
-use Rattle.row.specs.Sites.{row_sites, sites_cost}
+use Rattle.row.specs.Costs.{line_cost, site_cost, sites_cost}
+use Rattle.row.specs.Sites.{row_sites}
 use Rattle.row.specs.Stack.{Passes, Ready}
 use Rattle.row.specs.declared.Cell.{Cell}
 use Rattle.row.specs.declared.Row.{Row}
@@ -28,11 +30,11 @@ abbrev pub cells_by : {X : Type 0} → (X → Cell) → (X → Row) → Row → 
 cells_by cell_of row_of row xs = map cell_of (filter (λ x. same_row (row_of x) row) xs)
 
 -- what a cell costs on a row at a site: the site against the wanted site, and the line against the wanted line
-abbrev pub cell_cost : (ℕ → ℕ → ℕ → ℕ) → Cell → Row → ℕ → ℕ
-cell_cost price c row site = price c.wanted.site c.weight site + price c.wanted.line c.weight row.line
+abbrev pub cell_cost : Price → Cell → Row → ℕ → ℕ
+cell_cost price c row site = site_cost price c site + line_cost price c row.line
 
 -- what all cells cost, of what holds a cell, its row and its site
-abbrev pub costs_by : {X : Type 0} → (X → Cell) → (X → Row) → (X → ℕ) → (ℕ → ℕ → ℕ → ℕ) → List X → ℕ
+abbrev pub costs_by : {X : Type 0} → (X → Cell) → (X → Row) → (X → ℕ) → Price → List X → ℕ
 costs_by cell_of row_of site_of price [] = 0
 costs_by cell_of row_of site_of price (x ∷ xs) = cell_cost price (cell_of x) (row_of x) (site_of x) + costs_by cell_of row_of site_of price xs
 
@@ -70,15 +72,15 @@ abbrev pub Sited : Seat → Type 0
 Sited s = Passes s.cell × (s.site ≤ 65535)
 
 -- what the site of a seat costs
-abbrev pub site_cost : (ℕ → ℕ → ℕ → ℕ) → Seat → ℕ
-site_cost price s = price s.cell.wanted.site s.cell.weight s.site
+abbrev pub seat_cost : Price → Seat → ℕ
+seat_cost price s = site_cost price s.cell s.site
 
 -- a seat on a row that no seat of the row is ahead of
 abbrev pub row_key : Row → Seat
 row_key row = record { cell = record { number = 0; wanted = record { line = 0; site = 0 }; width = 0; weight = 0 }; row = row; site = 0 }
 
 -- the cost of the sites of a row
-abbrev pub row_cost : (ℕ → ℕ → ℕ → ℕ) → Row → List Seat → ℕ
+abbrev pub row_cost : Price → Row → List Seat → ℕ
 row_cost price row seats = sites_cost price (cells_on row seats) (sites_on row seats)
 
 -- a seat for a cell on a row, before the row is set
@@ -110,9 +112,9 @@ moved_all (x ∷ xs) [] = []
 moved_all (x ∷ xs) (s ∷ seats) = moved s x ∷ moved_all xs seats
 
 -- the seats once a row is set
-abbrev pub settled : (ℕ → ℕ → ℕ → ℕ) → Row → List Seat → List Seat
+abbrev pub settled : Price → Row → List Seat → List Seat
 settled price row seats = resited row (row_sites price row (cells_on row seats)) seats
 
 -- the cost of all seats: of the site against the wanted site, and of the line against the wanted line
-abbrev pub floor_cost : (ℕ → ℕ → ℕ → ℕ) → List Seat → ℕ
+abbrev pub floor_cost : Price → List Seat → ℕ
 floor_cost price = costs_by cell_of row_of site_of price

@@ -4,6 +4,7 @@
 --   Least        a placing went to a row that has sites, no row with sites rises less, and one that is ahead in row order rises more
 use Rattle.std.specs.Prelude.{◌≡◌, ℕ, ◌+◌, ◌<◌, ◌≤◌, true, List}
 use Rattle.std.specs.List.{ContainsAt as Has, AllByRecursion}
+use Rattle.measure.specs.Costs.{Price}
 use Rattle.row.specs.Records.{row_ahead}
 use Rattle.row.specs.Sites.{row_sites}
 use Rattle.row.specs.declared.Cell.{Cell}
@@ -15,11 +16,11 @@ use Rattle.floor.specs.declared.Placing.{Placing}
 use Rattle.floor.specs.declared.Seat.{Seat}
 
 -- every row's sites are those that `set` gives its cells
-abbrev pub Settled : (ℕ → ℕ → ℕ → ℕ) → List Row → List Seat → Type 0
+abbrev pub Settled : Price → List Row → List Seat → Type 0
 Settled price rows seats = AllByRecursion (λ row. sites_on row seats ≡ row_sites price row (cells_on row seats)) rows
 
 -- where a placing went, and that no other row would have been better
-pub record Least (price : ℕ → ℕ → ℕ → ℕ) (rows : List Row) (seats : List Seat) (cell : Cell) (placing : Placing) : Type 0 where
+pub record Least (price : Price) (rows : List Row) (seats : List Seat) (cell : Cell) (placing : Placing) : Type 0 where
   pub row : Row
   pub standing : Has rows row
   pub fits : has_sites seats cell row ≡ true
@@ -29,5 +30,5 @@ pub record Least (price : ℕ → ℕ → ℕ → ℕ) (rows : List Row) (seats 
   pub first : AllByRecursion (λ other. has_sites seats cell other ≡ true → row_ahead other row ≡ true → placing.rise < rise price seats cell other) rows
 
 -- a floor with these seats costs the rise more than with those before
-abbrev pub CostsMore : (ℕ → ℕ → ℕ → ℕ) → List Seat → List Seat → Placing → Type 0
+abbrev pub CostsMore : Price → List Seat → List Seat → Placing → Type 0
 CostsMore price before after placing = floor_cost price after ≡ floor_cost price before + placing.rise

@@ -6,6 +6,7 @@ use Rattle.std.specs.List.{AllByRecursion, list_any}
 use Rattle.std.specs.Option.{option_map, ok_or}
 use mathlib.Core.List.{map-map}
 use mathlib.Core.Path.{fun_ext}
+use Rattle.measure.specs.Costs.{Price}
 use Rattle.row.specs.Checked.{checked}
 use Rattle.row.specs.Records.{check, then, cell_fault, widths}
 use Rattle.row.specs.Task.{granted, changed}
@@ -86,7 +87,7 @@ module _ (seats : List Seat) where
       by_test true rest = refl
       by_test false rest = rest
 
-module _ (f : ℕ → ℕ → ℕ → ℕ) (all : List Row) (seats : List Seat) where
+module _ (f : Price) (all : List Row) (seats : List Seat) where
   -- a row is chosen where one has sites
   row_checked : (cell : Cell) (o : Option Row) → chosen f seats cell all ≡ o → list_any (has_sites seats cell) all ≡ true → checked (placed_on f seats cell o) ≡ None
   row_checked cell None is some = absurd (both_ways (list_any (has_sites seats cell) all) (any_none (has_sites seats cell) all (none_fits f seats cell all is)) some)
@@ -123,7 +124,7 @@ last_fails (Some refusal) some not e = absurd (not e)
 last_fails None true not e = let never : ◌≡◌ {A = ℕ} 0 1 = cc in absurd (omega arith)
 last_fails None false not e = (refl, refl)
 
-module _ (f : ℕ → ℕ → ℕ → ℕ) (all : List Row) (seats : List Seat) (cell : Cell) where
+module _ (f : Price) (all : List Row) (seats : List Seat) (cell : Cell) where
   -- no row has sites, in both views
   none_map : AllByRecursion (λ row. has_sites seats cell row ≡ false) all → AllByRecursion (λ row. has_sites_by cell_of row_of (map standing_of seats) cell row ≡ false) all
   none_map = subst (λ test. AllByRecursion (λ row. test row ≡ false) all) (sym (fun_ext (has_sites_map seats cell)))

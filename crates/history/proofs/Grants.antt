@@ -7,7 +7,7 @@ use Rattle.std.specs.List.{AllByRecursion, list_any}
 use Rattle.std.specs.Option.{option_map, unwrap_or, ok_or}
 use mathlib.Core.List.{Permᴰ}
 use mathlib.Core.List.Permᴰ as perm
-use Rattle.measure.specs.Costs.{Fair}
+use Rattle.measure.specs.Costs.{Fair, Price}
 use Rattle.row.proofs.Fits.{setting_fits}
 use Rattle.row.proofs.Ranges.{ranged}
 use Rattle.row.specs.Records.{row_ahead, widths}
@@ -92,7 +92,7 @@ some_seat None e = let never : ◌≡◌ {A = ℕ} 0 1 = cc in absurd (omega ari
 some_seat (Some s) e = (s, refl)
 
 -- where a new cell stands on a row that took it: the site that is answered, which is one of the row
-record Took (f : ℕ → ℕ → ℕ → ℕ) (seats : List Seat) (cell : Cell) (row : Row) : Type 0 where
+record Took (f : Price) (seats : List Seat) (cell : Cell) (row : Row) : Type 0 where
   site : ℕ
   site_is : site_then cell.number (seated f seats cell row) ≡ site
   answered : where_answer (seated f seats cell row) cell.number ≡ Ok (record { line = row.line; site = site })
@@ -104,7 +104,7 @@ inside_row row site from to =
     and_from (eqb row.line row.line) (leb row.left site && ltb site row.right) (eq-eqb row.line row.line refl)
     (and_from (leb row.left site) (ltb site row.right) (le-leb row.left site from) (lt-ltb site row.right to))
 
-module _ (f : ℕ → ℕ → ℕ → ℕ) (fair : Fair f) (all : List Row) (seats : List Seat) (well : formed all seats ≡ true) (cell : Cell) (can : Placeable seats cell) where
+module _ (f : Price) (fair : Fair f) (all : List Row) (seats : List Seat) (well : formed all seats ≡ true) (cell : Cell) (can : Placeable seats cell) where
   -- a standing row that has sites for a cell takes it so
   took : (row : Row) → Among all row → has_sites seats cell row ≡ true → Took f seats cell row
   took row among fits =
@@ -137,12 +137,12 @@ joined_cells row cell seats ks order =
     subst (Permᴰ (k ∷ ks)) (sym new) (perm.trans (perm.cons refl (subst (Permᴰ ks) old order)) (perm.symm (perm.middle k front back)))
 
 -- setting the row changes neither cells nor rows, so it is the same once the row has taken the cell
-seated_cells : (f : ℕ → ℕ → ℕ → ℕ) (row : Row) (cell : Cell) (seats : List Seat) (ks : List Standing) → Permᴰ ks (map standing_of seats) → Permᴰ (with_cell cell row ks) (map standing_of (seated f seats cell row))
+seated_cells : (f : Price) (row : Row) (cell : Cell) (seats : List Seat) (ks : List Standing) → Permᴰ ks (map standing_of seats) → Permᴰ (with_cell cell row ks) (map standing_of (seated f seats cell row))
 seated_cells f row cell seats ks order =
     subst (Permᴰ (with_cell cell row ks)) (sym (resited_map row standing_of (λ s x. refl) (row_sites f row (cells_on row (joined row cell seats))) (joined row cell seats))) (joined_cells row cell seats ks order)
 
 -- cells at the sites of their seats cost what the floor does
-seats_cost : (f : ℕ → ℕ → ℕ → ℕ) (at : ℕ → ℕ) (seats : List Seat) → AllByRecursion (λ s. at s.cell.number ≡ s.site) seats → cost f (map standing_of seats) at ≡ floor_cost f seats
+seats_cost : (f : Price) (at : ℕ → ℕ) (seats : List Seat) → AllByRecursion (λ s. at s.cell.number ≡ s.site) seats → cost f (map standing_of seats) at ≡ floor_cost f seats
 seats_cost f at [] same = refl
 seats_cost f at (s ∷ seats) same =
     let rest = seats_cost f at seats same.1 in
@@ -150,11 +150,11 @@ seats_cost f at (s ∷ seats) same =
     omega arith
 
 -- so they do at the sites that where_is answers, in whatever order they are told
-pub answered_cost : (f : ℕ → ℕ → ℕ → ℕ) (rows : List Row) (seats : List Seat) → formed rows seats ≡ true → (ks : List Standing) → Permᴰ ks (map standing_of seats) → cost f ks (site_in (where_answer seats)) ≡ floor_cost f seats
+pub answered_cost : (f : Price) (rows : List Row) (seats : List Seat) → formed rows seats ≡ true → (ks : List Standing) → Permᴰ ks (map standing_of seats) → cost f ks (site_in (where_answer seats)) ≡ floor_cost f seats
 answered_cost f rows seats well ks order = cost_perm f order (site_in (where_answer seats)) ∙ seats_cost f (site_in (where_answer seats)) seats (sites_are rows seats well)
 
 -- what is known of a granted placing: the row that is chosen is the one at the spot that is answered, it took the cell, and the cell stands there
-pub record PlacedRow (f : ℕ → ℕ → ℕ → ℕ) (all : List Row) (seats : List Seat) (rows : List Row) (cell : Cell) (placing : Placing) : Type 0 where
+pub record PlacedRow (f : Price) (all : List Row) (seats : List Seat) (rows : List Row) (cell : Cell) (placing : Placing) : Type 0 where
   pub row : Row
   pub is : chosen f seats cell all ≡ Some row
   pub row_is : row_at rows placing.spot ≡ row
@@ -164,7 +164,7 @@ pub record PlacedRow (f : ℕ → ℕ → ℕ → ℕ) (all : List Row) (seats :
   pub granted : place_refusal all seats cell ≡ None
   pub stands : where_answer (seated f seats cell row) cell.number ≡ Ok placing.spot
 
-module _ (f : ℕ → ℕ → ℕ → ℕ) (fair : Fair f) (all : List Row) (seats : List Seat) (well : formed all seats ≡ true) (set : Settled f all seats) (rows : List Row) (order : Permᴰ rows all) (cell : Cell) (placing : Placing) where
+module _ (f : Price) (fair : Fair f) (all : List Row) (seats : List Seat) (well : formed all seats ≡ true) (set : Settled f all seats) (rows : List Row) (order : Permᴰ rows all) (cell : Cell) (placing : Placing) where
   -- where a row is chosen
   on_row : place_refusal all seats cell ≡ None → (o : Option Row) → chosen f seats cell all ≡ o → placed_on f seats cell o ≡ Ok placing → PlacedRow f all seats rows cell placing
   on_row none None is e = absurd (not_ok f all seats well cell NoRoom placing e)
@@ -203,11 +203,11 @@ module _ (f : ℕ → ℕ → ℕ → ℕ) (fair : Fair f) (all : List Row) (sea
       (subst (λ l. Permᴰ (with_cell cell p.row ks) (map standing_of l)) (sym p.after) (seated_cells f p.row cell seats ks cells))
 
 -- what is known of a row on which a setting has the cell: it has sites for it, and the setting costs at least the row's rise more than the floor
-record Rival (f : ℕ → ℕ → ℕ → ℕ) (seats : List Seat) (cell : Cell) (row : Row) (total : ℕ) : Type 0 where
+record Rival (f : Price) (seats : List Seat) (cell : Cell) (row : Row) (total : ℕ) : Type 0 where
   fits : has_sites seats cell row ≡ true
   dearer : floor_cost f seats + rise f seats cell row ≤ total
 
-module _ (f : ℕ → ℕ → ℕ → ℕ) (fair : Fair f) (all : List Row) (seats : List Seat) (well : formed all seats ≡ true) (few : length seats ≤ 1024) (set : Settled f all seats) where
+module _ (f : Price) (fair : Fair f) (all : List Row) (seats : List Seat) (well : formed all seats ≡ true) (few : length seats ≤ 1024) (set : Settled f all seats) where
   module _ (ks : List Standing) (cells : Permᴰ ks (map standing_of seats)) (cell : Cell) (none : place_refusal all seats cell ≡ None) (row : Row) (among : Among all row) (other : ℕ → ℕ) (setting : Setting (with_cell cell row ks) other) where
     -- the cell can be placed
     can : Placeable seats cell

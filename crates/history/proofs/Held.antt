@@ -4,6 +4,7 @@
 --   Obeys            the tables hold a history, every row is set, and the floor obeys the law
 use Rattle.std.proofs.Common.{ℕ, List, map}
 use mathlib.Core.List.{Permᴰ}
+use Rattle.measure.specs.Costs.{Price}
 use Rattle.row.specs.declared.Row.{Row}
 use Rattle.floor.specs.Calls.{where_answer}
 use Rattle.floor.specs.Settled.{Settled}
@@ -22,7 +23,7 @@ pub record Held (history : List Event) (rows : List Row) (seats : List Seat) : T
   pub cells_are : Permᴰ (standing_in history) (map standing_of seats)
 
 -- and the floor obeys the law for it
-pub record Obeys (price : ℕ → ℕ → ℕ → ℕ) (history : List Event) (rows : List Row) (seats : List Seat) : Type 0 where
+pub record Obeys (price : Price) (history : List Event) (rows : List Row) (seats : List Seat) : Type 0 where
   pub law : Law price history (where_answer seats)
   pub held : Held history rows seats
   pub set : Settled price rows seats

@@ -5,7 +5,7 @@
 --   lived_empty, lived_more   of no calls, and of one call more; lived_lawful: it is lawful
 use Rattle.std.proofs.Common.{◌≡◌, ℕ, ◌≤◌, true, List, [], ◌∷◌, ◌++◌, map, reverse, length, Some, None, Option, vec_items, refl, sym, ap, ◌∙◌, subst, arith}
 use Rattle.std.proofs.lemmas.List.{map-append, reverse-append}
-use Rattle.measure.specs.Costs.{Fair}
+use Rattle.measure.specs.Costs.{Fair, Price}
 use Rattle.row.specs.Sites.{row_sites}
 use Rattle.row.specs.Task.{changed}
 use Rattle.row.specs.declared.Row.{Row}
@@ -38,7 +38,7 @@ added_formed rows seats row well None is = row_added rows row is seats well
 added_formed rows seats row well (Some refusal) is = well
 
 -- no more seats are left than stood
-less_few : (f : ℕ → ℕ → ℕ → ℕ) (seats : List Seat) (number : ℕ) (o : Option Seat) → length seats ≤ 1024 → length (seats_less f seats number o) ≤ 1024
+less_few : (f : Price) (seats : List Seat) (number : ℕ) (o : Option Seat) → length seats ≤ 1024 → length (seats_less f seats number o) ≤ 1024
 less_few f seats number None few = few
 less_few f seats number (Some s) few =
     let less = without_few number seats in
@@ -46,20 +46,20 @@ less_few f seats number (Some s) few =
     omega arith
 
 -- tables of a floor that obeys the law for a history
-pub record Lives (f : ℕ → ℕ → ℕ → ℕ) (history : List Event) (rows : List Row) (seats : List Seat) : Type 0 where
+pub record Lives (f : Price) (history : List Event) (rows : List Row) (seats : List Seat) : Type 0 where
   pub well : formed rows seats ≡ true
   pub few : length seats ≤ 1024
   pub obeys : Obeys f history rows seats
 
 -- what the floor costs is the sum over what stands
-pub lives_cost : (f : ℕ → ℕ → ℕ → ℕ) (history : List Event) (rows : List Row) (seats : List Seat) → Lives f history rows seats → floor_cost f seats ≡ cost f (standing_in history) (site_in (where_answer seats))
+pub lives_cost : (f : Price) (history : List Event) (rows : List Row) (seats : List Seat) → Lives f history rows seats → floor_cost f seats ≡ cost f (standing_in history) (site_in (where_answer seats))
 lives_cost f history rows seats lives = sym (answered_cost f rows seats lives.well (standing_in history) lives.obeys.held.cells_are)
 
 -- an empty floor does ..
-pub lives_empty : (f : ℕ → ℕ → ℕ → ℕ) → Fair f → Lives f [] [] []
+pub lives_empty : (f : Price) → Fair f → Lives f [] [] []
 lives_empty f fair = record { well = refl; few = omega arith; obeys = obeys_empty f fair }
 
-module _ (f : ℕ → ℕ → ℕ → ℕ) (fair : Fair f) (history : List Event) (rows : List Row) (seats : List Seat) (lives : Lives f history rows seats) where
+module _ (f : Price) (fair : Fair f) (history : List Event) (rows : List Row) (seats : List Seat) (lives : Lives f history rows seats) where
   -- the tables after a call are those of a floor
   then_formed : (call : Call) → formed (rows_then rows call) (seats_then f rows seats call) ≡ true
   then_formed (AddRow row) = added_formed rows seats row lives.well (add_refusal rows row) refl
@@ -86,18 +86,18 @@ abbrev pub tables_of : {M : Type 0} → Floor M → Tables
 tables_of floor = record { rows = rows_of floor; seats = seats_of floor }
 
 -- the tables after one call more
-after_more : (f : ℕ → ℕ → ℕ → ℕ) (t : Tables) (calls : List Call) (call : Call) → after f t (calls ++ call ∷ []) ≡ tables_then f (after f t calls) call
+after_more : (f : Price) (t : Tables) (calls : List Call) (call : Call) → after f t (calls ++ call ∷ []) ≡ tables_then f (after f t calls) call
 after_more f t [] call = refl
 after_more f t (first ∷ calls) call = after_more f (tables_then f t first) calls call
 
 -- The events are those of the calls, the floor lives by them, and its tables are those that the calls make.
-pub record Lived {M : Type 0} (f : ℕ → ℕ → ℕ → ℕ) (calls : List Call) (floor : Floor M) (events : List Event) : Type 0 where
+pub record Lived {M : Type 0} (f : Price) (calls : List Call) (floor : Floor M) (events : List Event) : Type 0 where
   pub made_of : map call_of events ≡ calls
   pub lives : Lives f (reverse events) (rows_of floor) (seats_of floor)
   pub tables : tables_of floor ≡ made f calls
 
 -- such a floor is lawful
-pub lived_lawful : {M : Type 0} (f : ℕ → ℕ → ℕ → ℕ) (calls : List Call) (life : Life M) → Lived f calls life.floor (vec_items life.events) → Lawful f calls life
+pub lived_lawful : {M : Type 0} (f : Price) (calls : List Call) (life : Life M) → Lived f calls life.floor (vec_items life.events) → Lawful f calls life
 lived_lawful f calls life lived = record {
   made_of = lived.made_of;
   law = lived.lives.obeys.law;
@@ -106,7 +106,7 @@ lived_lawful f calls life lived = record {
   seats = ap (λ (t : Tables). t.seats) lived.tables;
 }
 
-module _ {M : Type 0} (f : ℕ → ℕ → ℕ → ℕ) (fair : Fair f) where
+module _ {M : Type 0} (f : Price) (fair : Fair f) where
   -- no call is made yet
   pub lived_empty : (floor : Floor M) (events : List Event) → rows_of floor ≡ [] → seats_of floor ≡ [] → events ≡ [] → Lived f [] floor events
   lived_empty floor events rows seats none = record {

@@ -6,6 +6,7 @@ use Rattle.std.specs.Option.{option_map}
 use mathlib.Core.List.{Permᴰ}
 use mathlib.Core.List.Permᴰ as perm
 use mathlib.Core.Path.{fun_ext}
+use Rattle.measure.specs.Costs.{Price}
 use Rattle.row.specs.Records.{check, then, cell_fault, row_fault, widths}
 use Rattle.row.specs.Settings.{EveryPair, Within, Clear, Rising}
 use Rattle.row.specs.declared.Cell.{Cell}
@@ -123,7 +124,7 @@ setting_perm d at s = record {
 }
 
 -- its cost
-pub cost_perm : (f : ℕ → ℕ → ℕ → ℕ) {ks ls : List Standing} → Permᴰ ks ls → (at : ℕ → ℕ) → cost f ks at ≡ cost f ls at
+pub cost_perm : (f : Price) {ks ls : List Standing} → Permᴰ ks ls → (at : ℕ → ℕ) → cost f ks at ≡ cost f ls at
 cost_perm f Permᴰ.nil at = refl
 cost_perm f (Permᴰ.cons e d) at = λ i. cell_cost f (e i).cell (e i).row (at (e i).cell.number) + cost_perm f d at i
 cost_perm f (Permᴰ.swap e g) at =
@@ -134,7 +135,7 @@ cost_perm f (Permᴰ.swap e g) at =
 cost_perm f (Permᴰ.trans d e) at = cost_perm f d at ∙ cost_perm f e at
 
 -- what holds of the answers of where_is
-pub holds_perm : (f : ℕ → ℕ → ℕ → ℕ) {ks ls : List Standing} (w : Where) → Permᴰ ks ls → Holds f ls w → Holds f ks w
+pub holds_perm : (f : Price) {ks ls : List Standing} (w : Where) → Permᴰ ks ls → Holds f ls w → Holds f ks w
 holds_perm f {ks} {ls} w d h =
     let same = cost_perm f d in
     let back : (other : ℕ → ℕ) → Setting ks other → Setting ls other = setting_perm (perm.symm d) in

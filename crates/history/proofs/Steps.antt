@@ -5,7 +5,7 @@ use Rattle.std.specs.List.{insert}
 use Rattle.std.specs.Option.{option_map, ok_or}
 use mathlib.Core.List.{Permᴰ}
 use mathlib.Core.List.Permᴰ as perm
-use Rattle.measure.specs.Costs.{Fair}
+use Rattle.measure.specs.Costs.{Fair, Price}
 use Rattle.row.specs.Sites.{row_sites}
 use Rattle.row.specs.Task.{granted, changed}
 use Rattle.row.specs.declared.Cell.{Cell}
@@ -41,7 +41,7 @@ use Rattle.history.proofs.Perms.{holds_perm, filter_perm, decide_perm, full_perm
 insert_perm : {X : Type 0} (k : X) (xs : List X) (n : ℕ) → Permᴰ (k ∷ xs) (insert xs n k)
 insert_perm k xs n = subst (λ l. Permᴰ (k ∷ l) (insert xs n k)) (take-append-drop n xs) (perm.symm (perm.middle k (take n xs) (drop n xs)))
 
-module _ (f : ℕ → ℕ → ℕ → ℕ) (all : List Row) (seats : List Seat) (cell : Cell) where
+module _ (f : Price) (all : List Row) (seats : List Seat) (cell : Cell) where
   module _ (fair : Fair f) (well : formed all seats ≡ true) where
     -- whether a row is chosen or none
     on_formed : place_refusal all seats cell ≡ None → (o : Option Row) → chosen f seats cell all ≡ o → formed all (seated_on f seats cell o) ≡ true
@@ -79,7 +79,7 @@ module _ (f : ℕ → ℕ → ℕ → ℕ) (all : List Row) (seats : List Seat) 
     place_few = after_few (place_refusal all seats cell) refl
 
 -- a floor that begins empty obeys the law
-pub obeys_empty : (f : ℕ → ℕ → ℕ → ℕ) → Fair f → Obeys f [] [] []
+pub obeys_empty : (f : Price) → Fair f → Obeys f [] [] []
 obeys_empty f fair = record {
   law = record {
     found = tt;
@@ -98,13 +98,13 @@ if_ok P (Ok x) give = give x refl
 if_ok P (Err failure) give = tt
 
 -- an event tells the call that it is of
-pub call_is : (f : ℕ → ℕ → ℕ → ℕ) (rows : List Row) (seats : List Seat) (call : Call) → call_of (event_of f rows seats call) ≡ call
+pub call_is : (f : Price) (rows : List Row) (seats : List Seat) (call : Call) → call_of (event_of f rows seats call) ≡ call
 call_is f rows seats (AddRow row) = refl
 call_is f rows seats (Place cell) = refl
 call_is f rows seats (Try cell) = refl
 call_is f rows seats (Withdraw number) = refl
 
-module _ (f : ℕ → ℕ → ℕ → ℕ) (fair : Fair f) (history : List Event) (rows : List Row) (seats : List Seat) (well : formed rows seats ≡ true) (few : length seats ≤ 1024) (obeys : Obeys f history rows seats) where
+module _ (f : Price) (fair : Fair f) (history : List Event) (rows : List Row) (seats : List Seat) (well : formed rows seats ≡ true) (few : length seats ≤ 1024) (obeys : Obeys f history rows seats) where
   -- the rows that the history says stand
   abbrev R : List Row
   R = rows_in history
@@ -172,7 +172,7 @@ module _ (f : ℕ → ℕ → ℕ → ℕ) (fair : Fair f) (history : List Event
   answers_step (Withdraw number) = refl
 
 -- where a floor obeys the law, it obeys it once a call is made
-pub obeys_step : (f : ℕ → ℕ → ℕ → ℕ) → Fair f → (history : List Event) (rows : List Row) (seats : List Seat) → formed rows seats ≡ true → length seats ≤ 1024 → Obeys f history rows seats → (call : Call) → formed (rows_then rows call) (seats_then f rows seats call) ≡ true → length (seats_then f rows seats call) ≤ 1024 → Obeys f (event_of f rows seats call ∷ history) (rows_then rows call) (seats_then f rows seats call)
+pub obeys_step : (f : Price) → Fair f → (history : List Event) (rows : List Row) (seats : List Seat) → formed rows seats ≡ true → length seats ≤ 1024 → Obeys f history rows seats → (call : Call) → formed (rows_then rows call) (seats_then f rows seats call) ≡ true → length (seats_then f rows seats call) ≤ 1024 → Obeys f (event_of f rows seats call ∷ history) (rows_then rows call) (seats_then f rows seats call)
 obeys_step f fair history rows seats well few obeys call well_then few_then =
     let held = held_step f fair history rows seats well few obeys call in
     let set = set_step f fair history rows seats well few obeys call in

@@ -4,10 +4,10 @@ use Rattle.std.proofs.ByRecursion.{All-weaker, All-map}
 use Rattle.std.proofs.lemmas.Bool.{and_parts, both_ways, or_cases}
 use Rattle.std.proofs.lemmas.List.Sums.{sum_by-cons}
 use Rattle.std.specs.List.{AllZip, AllByRecursion, sum_by, count_by, list_all, list_any}
-use Rattle.measure.specs.Costs.{Fair}
+use Rattle.measure.specs.Costs.{Fair, Price}
 use Rattle.row.specs.Records.{row_fault, row_ahead}
 use Rattle.row.specs.Settings.{Cheapest}
-use Rattle.row.specs.Sites.{sites_cost}
+use Rattle.row.specs.Costs.{sites_cost}
 use Rattle.row.specs.declared.Row.{Row}
 use Rattle.row.proofs.Subject.{row_cheapest}
 use Rattle.floor.specs.Calls.{where_answer}
@@ -57,7 +57,7 @@ on_one rows seats well =
     let ordered = (and_parts (every_pair row_ahead rows) (every_pair (λ a b. not (share a b)) rows) parts.1).0 in
     All-weaker (λ s. Standing rows s.row) (OnOne on_row rows) (λ s. once rows s.row ordered) seats listed.stand
 
-module _ (f : ℕ → ℕ → ℕ → ℕ) where
+module _ (f : Price) where
   -- what a seat's cell costs at a site
   abbrev across : (Seat → ℕ) → Seat → ℕ
   across site s = f s.cell.wanted.site s.cell.weight (site s)
@@ -89,7 +89,7 @@ zip_each : (own other : Seat → ℕ) (seats : List Seat) → AllZip ◌≤◌ (
 zip_each own other [] h = tt
 zip_each own other (s ∷ seats) h = (h.0, zip_each own other seats h.1)
 
-module _ (f : ℕ → ℕ → ℕ → ℕ) (fair : Fair f) (rows : List Row) (seats : List Seat) (well : formed rows seats ≡ true) (few : length seats ≤ 1024) (set : Settled f rows seats) where
+module _ (f : Price) (fair : Fair f) (rows : List Row) (seats : List Seat) (well : formed rows seats ≡ true) (few : length seats ≤ 1024) (set : Settled f rows seats) where
   -- the sites that where_is answers
   abbrev here : ℕ → ℕ
   here = site_in (where_answer seats)
@@ -176,7 +176,7 @@ module _ (f : ℕ → ℕ → ℕ → ℕ) (fair : Fair f) (rows : List Row) (se
         (all_with (λ s. here s.cell.number ≡ s.site) (λ s. s.site ≤ other_site s) (λ s. here s.cell.number ≤ other s.cell.number) (λ s is left. omega arith) seats (sites_are rows seats well) each)
 
 -- the tables are as the law says of the answers of where_is
-pub tables_hold : (f : ℕ → ℕ → ℕ → ℕ) → Fair f → (rows : List Row) (seats : List Seat) → formed rows seats ≡ true → length seats ≤ 1024 → Settled f rows seats → Holds f (map standing_of seats) (where_answer seats)
+pub tables_hold : (f : Price) → Fair f → (rows : List Row) (seats : List Seat) → formed rows seats ≡ true → length seats ≤ 1024 → Settled f rows seats → Holds f (map standing_of seats) (where_answer seats)
 tables_hold f fair rows seats well few set = record {
   found = tables_found rows seats well;
   absent = tables_absent seats;

@@ -11,6 +11,7 @@ use Rattle.std.proofs.ByRecursion.{All-weaker}
 use Rattle.std.proofs.lemmas.Bool.{cases_Bool, both_ways, or_cases, or_left, or_right, cond_both, eqb-true, not_from_false, false_from_ne_true, true_from_ne_false}
 use Rattle.std.proofs.lemmas.Result.{IfOk-at_ok}
 use Rattle.std.specs.List.{AllByRecursion, list_any}
+use Rattle.measure.specs.Costs.{Price}
 use Rattle.row.specs.Checked.{checked}
 use Rattle.row.specs.Records.{row_fault, row_ahead}
 use Rattle.row.specs.Settings.{EveryPair, Within}
@@ -47,7 +48,7 @@ Found w k = w k.cell.number ≡ Ok (record { line = k.row.line; site = site_in w
 abbrev NotRight : Where → Where → Standing → Type 0
 NotRight w v k = site_in w k.cell.number ≤ site_in v k.cell.number
 
-module _ (price : ℕ → ℕ → ℕ → ℕ) (standing : List Standing) (w v : Where) (one : Holds price standing w) (two : Holds price standing v) where
+module _ (price : Price) (standing : List Standing) (w v : Where) (one : Holds price standing w) (two : Holds price standing v) where
   -- both settings cost the same
   same_cost : cost price standing (site_in v) ≡ cost price standing (site_in w)
   same_cost =
@@ -79,12 +80,12 @@ module _ (price : ℕ → ℕ → ℕ → ℕ) (standing : List Standing) (w v :
       (cases_Bool (stands_by cell_of row_of number standing))
 
 -- what the law says of where_is after a history
-law_holds : (price : ℕ → ℕ → ℕ → ℕ) (history : List Event) (w : Where) → Law price history w → Holds price (standing_in history) w
+law_holds : (price : Price) (history : List Event) (w : Where) → Law price history w → Holds price (standing_in history) w
 law_holds price [] w law = law
 law_holds price (e ∷ earlier) w law = law.2.holds
 
 -- after one history where_is has one answer for each number
-pub one_where : (price : ℕ → ℕ → ℕ → ℕ) → OneWhere price
+pub one_where : (price : Price) → OneWhere price
 one_where price history w v of_w of_v = one_setting price (standing_in history) w v (law_holds price history w of_w) (law_holds price history v of_v)
 
 -- rows within their ranges, no two with a site in common
@@ -109,7 +110,7 @@ apart_after rows standing (event.Tried cell answer) known decided = known
 apart_after rows standing (event.Withdrawn number answer) known decided = known
 
 -- so the rows that a history says stand are apart
-pub rows_apart : (price : ℕ → ℕ → ℕ → ℕ) (history : List Event) (w : Where) → Law price history w → Apart (rows_in history)
+pub rows_apart : (price : Price) (history : List Event) (w : Where) → Law price history w → Apart (rows_in history)
 rows_apart price [] w law = record { pass = tt; apart = tt }
 rows_apart price (e ∷ earlier) w law = apart_after (rows_in earlier) (standing_in earlier) e (rows_apart price earlier law.0 law.1) law.2.decided
 
@@ -127,11 +128,11 @@ within_among rows spot k at wide within =
     ⊎_elim (λ among. among) (λ none. let inside = subst (λ r. Within r (placed at k)) none within in absurd (omega arith)) (row_at_among rows spot)
 
 -- a placing of a cell that the law grants, with some answers of where_is after it
-abbrev pub Grants : (ℕ → ℕ → ℕ → ℕ) → List Row → List Standing → Where → Cell → Placing → Type 0
+abbrev pub Grants : Price → List Row → List Standing → Where → Cell → Placing → Type 0
 Grants price rows earlier before cell placing =
     (after : Where) × Granted price rows earlier before cell placing after × Holds price (with_placed rows earlier cell placing) after
 
-module _ (price : ℕ → ℕ → ℕ → ℕ) (rows : List Row) (earlier : List Standing) (before : Where) (cell : Cell) (known : Apart rows) (wide : 1 ≤ cell.width) where
+module _ (price : Price) (rows : List Row) (earlier : List Standing) (before : Where) (cell : Cell) (known : Apart rows) (wide : 1 ≤ cell.width) where
   -- the same of this cell
   abbrev Grant : Placing → Type 0
   Grant p = Grants price rows earlier before cell p
@@ -191,7 +192,7 @@ one_result (Ok x) (Err f) same granted = cc
 one_result (Err e) (Ok y) same granted = cc
 one_result (Err e) (Err f) same granted = cc
 
-module _ (price : ℕ → ℕ → ℕ → ℕ) (earlier : List Event) (before : Where) (known : Apart (rows_in earlier)) where
+module _ (price : Price) (earlier : List Event) (before : Where) (known : Apart (rows_in earlier)) where
   -- the rows before a call
   abbrev rows : List Row
   rows = rows_in earlier
@@ -244,7 +245,7 @@ module _ (price : ℕ → ℕ → ℕ → ℕ) (earlier : List Event) (before : 
   one_step d e w v same of_d of_e = cc
 
 -- and with any, as there is only one
-pub one_answer : (price : ℕ → ℕ → ℕ → ℕ) → OneAnswer price
+pub one_answer : (price : Price) → OneAnswer price
 one_answer price history d e w v same of_d of_e =
     one_step price history of_d.0 (rows_apart price history of_d.0 of_d.1) d e w v same of_d.2
     (subst (λ b. Step price history b e v) (fun_ext (one_where price history of_e.0 of_d.0 of_e.1 of_d.1)) of_e.2)

@@ -3,6 +3,7 @@
 --   rows_then, seats_then     the rows and the seats after it
 --   made                      the rows and the seats that calls make of those of an empty floor
 use Rattle.std.specs.Prelude.{ℕ, List, [], ◌∷◌}
+use Rattle.measure.specs.Costs.{Price}
 use Rattle.row.specs.Task.{granted}
 use Rattle.row.specs.declared.Row.{Row}
 use Rattle.floor.specs.Calls.{rows_after, place_answer, where_answer, seats_after_place, seats_after_withdraw}
@@ -20,7 +21,7 @@ rows_then rows (Place cell) = rows
 rows_then rows (Try cell) = rows
 rows_then rows (Withdraw number) = rows
 
-module _ (price : ℕ → ℕ → ℕ → ℕ) (rows : List Row) (seats : List Seat) where
+module _ (price : Price) (rows : List Row) (seats : List Seat) where
   -- a call with its answer
   abbrev pub event_of : Call → Event
   event_of (AddRow row) = Added row (granted (add_refusal rows row) tt)
@@ -40,7 +41,7 @@ pub record Tables : Type 0 where
   pub rows : List Row
   pub seats : List Seat
 
-module _ (price : ℕ → ℕ → ℕ → ℕ) where
+module _ (price : Price) where
   -- the tables after one call
   abbrev pub tables_then : Tables → Call → Tables
   tables_then t call = record { rows = rows_then t.rows call; seats = seats_then price t.rows t.seats call }

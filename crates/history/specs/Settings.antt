@@ -6,6 +6,7 @@
 --   cost            the sum over the standing cells of the cost of the site and of the line
 use Rattle.std.specs.Prelude.{◌≡◌, ℕ, true, List, Ok, Err, Result}
 use Rattle.std.specs.List.{AllByRecursion}
+use Rattle.measure.specs.Costs.{Price}
 use Rattle.row.specs.Settings as row
 use Rattle.row.specs.Settings.{EveryPair, Within, Clear, Rising}
 use Rattle.row.specs.declared.Spot.{Spot}
@@ -50,5 +51,5 @@ pub record Setting (standing : List Standing) (at : ℕ → ℕ) : Type 0 where
   pub in_order : InWantedOrder standing at
 
 -- what a setting costs: for each standing cell, its site against the wanted site, and its row's line against the wanted line
-abbrev pub cost : (ℕ → ℕ → ℕ → ℕ) → List Standing → (ℕ → ℕ) → ℕ
+abbrev pub cost : Price → List Standing → (ℕ → ℕ) → ℕ
 cost price standing at = costs_by cell_of row_of (λ k. at k.cell.number) price standing

@@ -5,6 +5,7 @@
 --   WorkedOut    that there are twelve, and that every check of each comes out
 use Rattle.std.specs.Prelude.{◌≡◌, ℕ, List, [], ◌∷◌, ◌++◌, length, map, Ok, IsErrAnd}
 use Rattle.std.specs.List.{AllByRecursion}
+use Rattle.measure.specs.Costs.{Price}
 use Rattle.measure.specs.Names.{named_price}
 use Rattle.measure.specs.declared.name.MeasureName.{MeasureName}
 use Rattle.measure.specs.declared.name.MeasureName.TheVariants.{Squared, Plain}
@@ -39,11 +40,11 @@ abbrev pub buffer : List Cell → List ℕ
 buffer cells = map (λ _. 0) cells
 
 -- that cells stand so on a floor with these tables, and that it costs this
-abbrev pub Leaves : (ℕ → ℕ → ℕ → ℕ) → Tables → List Stand → ℕ → Type 0
+abbrev pub Leaves : Price → Tables → List Stand → ℕ → Type 0
 Leaves price t stands cost = AllByRecursion (λ s. where_answer t.seats s.number ≡ Ok s.spot) stands × (floor_cost price t.seats ≡ cost)
 
 -- that placing a cell on a floor with these tables answers this
-abbrev pub Places : (ℕ → ℕ → ℕ → ℕ) → Tables → Cell → Placing → Type 0
+abbrev pub Places : Price → Tables → Cell → Placing → Type 0
 Places price t cell placing = event_of price t.rows t.seats (Place cell) ≡ Placed cell (Ok placing)
 
 -- that a check comes out as it says

@@ -4,14 +4,14 @@
 --   Decodes byte r     r is the name with this code, or an error where no name has it
 --   word name          the word for it in what people read
 use Rattle.std.specs.Prelude.{◌≡◌, ℕ, ◌<◌, List, Result, MatchResult, codes}
-use Rattle.measure.specs.Costs.{Fair}
+use Rattle.measure.specs.Costs.{Fair, Price}
 use Rattle.measure.specs.Measures.{squared, plain}
 use Rattle.measure.specs.Steps.{squared_fair, plain_fair}
 use Rattle.measure.specs.declared.name.MeasureName.{MeasureName}
 use Rattle.measure.specs.declared.name.MeasureName.TheVariants.{Squared, Plain}
 use Rattle.measure.specs.declared.name.UnknownMeasure.{UnknownMeasure}
 
-abbrev pub named_price : MeasureName → ℕ → ℕ → ℕ → ℕ
+abbrev pub named_price : MeasureName → Price
 named_price Squared = squared
 named_price Plain = plain
 

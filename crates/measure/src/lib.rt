@@ -2,7 +2,7 @@
 #![tactic(auto)]
 
 ghost use Rattle.std.specs.Prelude.{◌≡◌, ℕ};
-ghost use Rattle.measure.specs.Costs.{Fair, cost_of, in_range, rise_of, step_of};
+ghost use Rattle.measure.specs.Costs.{Fair, Price, cost_of, in_range, rise_of, step_of};
 ghost use Rattle.measure.specs.Measures.{squared, plain};
 ghost use Rattle.measure.specs.Steps.{squared_fair, plain_fair};
 
@@ -25,7 +25,7 @@ fn is_in_range(wanted: u32, weight: u32, place: u32) -> bool
 
 // A measure gives one whole number, the cost, for each wanted place, weight and place.
 pub trait Measure {
-    ghost price: { Self → ℕ → ℕ → ℕ → ℕ };
+    ghost price: { Self → Price };
 
     // The formula of the cost, with no test of the ranges.
     fn price_at(&self, wanted: u16, weight: u16, place: u16) -> u64

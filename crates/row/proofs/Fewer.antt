@@ -1,7 +1,8 @@
 -- One cell fewer costs a row no more.
 use Rattle.std.proofs.Common.{ℕ, ◌≤◌, List, ◌∷◌, ◌++◌, arith}
-use Rattle.measure.specs.Costs.{Fair}
-use Rattle.row.specs.Sites.{row_sites, sites_cost}
+use Rattle.measure.specs.Costs.{Fair, Price}
+use Rattle.row.specs.Costs.{sites_cost}
+use Rattle.row.specs.Sites.{row_sites}
 use Rattle.row.specs.declared.Cell.{Cell}
 use Rattle.row.specs.declared.Row.{Row}
 use Rattle.row.proofs.Accepted.{Accepted}
@@ -9,7 +10,7 @@ use Rattle.row.proofs.Instance.{lane, tight, cost_is}
 use Rattle.row.proofs.Subject.{row_answer}
 use Rattle.row.proofs.Theory.Fewer.{Triangle, fewer_cheapest}
 
-module _ (f : ℕ → ℕ → ℕ → ℕ) (row : Row) where
+module _ (f : Price) (row : Row) where
   -- a cell between two others keeps them further apart
   triangle : Triangle (lane f row)
   triangle c d e = omega arith

@@ -5,10 +5,11 @@ use Rattle.std.proofs.ByRecursion.{All-push, All-get_or}
 use Rattle.std.proofs.lemmas.List.Edits.{length-between}
 use Rattle.std.proofs.lemmas.List.{take_all, reverse-reverse}
 use Rattle.std.specs.List.{between, AllByRecursion}
-use Rattle.measure.specs.Costs.{Fair}
+use Rattle.measure.specs.Costs.{Fair, Price}
 use Rattle.row.specs.Clusters.{laid}
 use Rattle.row.specs.Settings.{placed, Within}
-use Rattle.row.specs.Sites.{abut, row_clusters, row_sites, sites_cost}
+use Rattle.row.specs.Costs.{sites_cost}
+use Rattle.row.specs.Sites.{abut, row_clusters, row_sites}
 use Rattle.row.specs.Stack.{Ready, InPlaces, part, cluster_of, stack_of, Tiled, Holds}
 use Rattle.row.specs.declared.Cell.{Cell}
 use Rattle.row.specs.declared.Row.{Row}
@@ -34,7 +35,7 @@ all_places row cs [] right each within = tt
 all_places row [] (y ∷ ys) right each within = absurd (omega arith)
 all_places row (c ∷ cs) (y ∷ ys) right each within = let end = within.0.1 in (omega arith, all_places row cs ys right (omega arith) within.1)
 
-module _ (f : ℕ → ℕ → ℕ → ℕ) (row : Row) (cells : List Cell) (n : ℕ) (fair : Fair f) (a : Accepted row cells n) where
+module _ (f : Price) (row : Row) (cells : List Cell) (n : ℕ) (fair : Fair f) (a : Accepted row cells n) where
   -- sound clusters lie within the row
   sound_places : (ks : List Run) (past : ℕ) → Tiled cells past ks → Sound (lane f row) (map (cluster_of cells) ks) → AllByRecursion InPlaces ks
   sound_places [] past tiled sound = tt
@@ -52,7 +53,7 @@ module _ (f : ℕ → ℕ → ℕ → ℕ) (row : Row) (cells : List Cell) (n : 
   row_places = all_places row cells (row_sites f row cells) a.ranged.right row_each (row_cheapest f row fair cells n a).setting.legal.0
 
 -- Runs that are the row's clusters.
-module _ {f : ℕ → ℕ → ℕ → ℕ} {row : Row} {cells : List Cell} {runs items : List Run} (fair : Fair f) (ready : Ready row cells) (same : runs ≡ items) (h : Holds f row cells (length cells) items) where
+module _ {f : Price} {row : Row} {cells : List Cell} {runs items : List Run} (fair : Fair f) (ready : Ready row cells) (same : runs ≡ items) (h : Holds f row cells (length cells) items) where
   abbrev a : Accepted row cells (length cells)
   a = ready_known row cells ready
 

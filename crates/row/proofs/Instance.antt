@@ -3,10 +3,11 @@ use Rattle.std.proofs.Common.{◌≡◌, ℕ, ◌+◌, ◌-◌, ◌<◌, ◌≤�
 use mathlib.Core.Path.{fun_ext}
 use Rattle.std.proofs.lemmas.Int.{ints}
 use Rattle.std.specs.List.{AllByRecursion}
-use Rattle.measure.specs.Costs.{Fair}
+use Rattle.measure.specs.Costs.{Fair, Price}
 use Rattle.row.specs.Clusters.{Cluster, push, settle, laid}
 use Rattle.row.specs.Records.{widths}
-use Rattle.row.specs.Sites.{abut, sites_cost, cluster_rise, climbs, least, best_site, reach as reaches, row_clusters, row_sites}
+use Rattle.row.specs.Costs.{sites_cost}
+use Rattle.row.specs.Sites.{abut, cluster_rise, climbs, least, best_site, reach as reaches, row_clusters, row_sites}
 use Rattle.row.specs.Stack.{Passes}
 use Rattle.row.specs.declared.Cell.{Cell}
 use Rattle.row.specs.declared.Row.{Row}
@@ -17,10 +18,10 @@ use Rattle.row.proofs.Theory.Packed.{Lane, next, span, packed, reach, sites, cos
 use Rattle.row.proofs.Theory.Certificates.{IsBest}
 
 -- cells abut, and a cluster takes its first best site
-abbrev pub lane : (ℕ → ℕ → ℕ → ℕ) → Row → Lane Cell
+abbrev pub lane : Price → Row → Lane Cell
 lane f row = record { width = λ c. c.width; apart = λ c d. c.width; price = λ c x. f c.wanted.site c.weight x; low = row.left; high = row.right; tie = 0 }
 
-module _ (f : ℕ → ℕ → ℕ → ℕ) (row : Row) where
+module _ (f : Price) (row : Row) where
   abbrev R : Lane Cell
   R = lane f row
 

@@ -3,8 +3,10 @@ use Rattle.std.proofs.Common.{◌≡◌, ℕ, ◌+◌, ◌<◌, ◌≤◌, List,
 use Rattle.std.proofs.lemmas.List.Edits.{length-between}
 use Rattle.std.proofs.lemmas.List.{take_more, reverse-append, length-take-le, length-append, take-append-drop, take_at, take_all}
 use Rattle.std.specs.List.{between}
+use Rattle.measure.specs.Costs.{Price}
 use Rattle.row.specs.Clusters.{laid}
-use Rattle.row.specs.Sites.{abut, sites_cost}
+use Rattle.row.specs.Costs.{sites_cost}
+use Rattle.row.specs.Sites.{abut}
 use Rattle.row.specs.Stack.{part, cluster_of, stack_of, Spans, Tiled}
 use Rattle.row.specs.declared.Cell.{Cell}
 use Rattle.row.specs.declared.cluster.Cluster.{Cluster as Run}
@@ -86,7 +88,7 @@ module _ (cells : List Cell) (runs : List Run) (i past : ℕ) (sites : List ℕ)
         }
 
     -- and what its cells cost is added to what those before them cost
-    pub lay_cost : (f : ℕ → ℕ → ℕ → ℕ) → sites_cost f (take next_run.past cells) (take next_run.past new) ≡ sites_cost f (take past cells) (take past sites) + sites_cost f (part cells next_run) (abut (part cells next_run) next_run.site)
+    pub lay_cost : (f : Price) → sites_cost f (take next_run.past cells) (take next_run.past new) ≡ sites_cost f (take past cells) (take past sites) + sites_cost f (part cells next_run) (abut (part cells next_run) next_run.site)
     lay_cost f =
         let own = next_spans in
         let starts = own.0.starts in
@@ -113,7 +115,7 @@ lay_all cells runs i past sites tiled all each l =
     sym (take_all past sites (omega arith)) ∙ l.written ∙ ap (λ ks. laid abut (stack_of cells ks)) (take_all i runs all)
 
 -- and their cost is that of all cells
-pub lay_all_cost : (f : ℕ → ℕ → ℕ → ℕ) (cells : List Cell) (runs : List Run) (i past : ℕ) (sites : List ℕ) → Tiled cells (length cells) (reverse runs) → length runs ≤ i → length sites ≡ length cells → Laid cells runs i past sites → sites_cost f (take past cells) (take past sites) ≡ sites_cost f cells sites
+pub lay_all_cost : (f : Price) (cells : List Cell) (runs : List Run) (i past : ℕ) (sites : List ℕ) → Tiled cells (length cells) (reverse runs) → length runs ≤ i → length sites ≡ length cells → Laid cells runs i past sites → sites_cost f (take past cells) (take past sites) ≡ sites_cost f cells sites
 lay_all_cost f cells runs i past sites tiled all each l =
     let end = laid_end tiled all l in
     ap (λ cs. sites_cost f cs (take past sites)) (take_all past cells (omega arith)) ∙ ap (sites_cost f cells) (take_all past sites (omega arith))

@@ -4,7 +4,7 @@ use Rattle.std.proofs.ByRecursion.{All-get_or}
 use Rattle.std.proofs.lemmas.Bool.{cases_lt}
 use Rattle.std.proofs.lemmas.Int.{ints}
 use Rattle.std.specs.List.{between}
-use Rattle.measure.specs.Costs.{Fair}
+use Rattle.measure.specs.Costs.{Fair, Price}
 use Rattle.row.specs.Records.{widths}
 use Rattle.row.specs.Sites.{climbs, best_site}
 use Rattle.row.specs.Stack.{Passes, Ready}
@@ -18,7 +18,7 @@ use Rattle.row.proofs.Parts.{between_one, one_known}
 use Rattle.row.proofs.Ranges.{ranged}
 use Rattle.row.proofs.Rises.{in_ranges, climbs_on}
 
-module _ (f : ℕ → ℕ → ℕ → ℕ) (fair : Fair f) (c : Cell) (passes : Passes c) where
+module _ (f : Price) (fair : Fair f) (c : Cell) (passes : Passes c) where
   -- at its wanted site a cell does not gain by going right
   home_climbs : climbs f (c ∷ []) c.wanted.site ≡ true
   home_climbs =
@@ -42,7 +42,7 @@ module _ (f : ℕ → ℕ → ℕ → ℕ) (fair : Fair f) (c : Cell) (passes : 
       (cases_lt c.wanted.site row.left)
 
 -- the same of the cell with index i of a row that is not refused
-pub lone_known : (f : ℕ → ℕ → ℕ → ℕ) → Fair f → (row : Row) (cells : List Cell) (i : ℕ) → Ready row cells → i < length cells → best_site f row (between i (i + 1) cells) ≤ max (get_or cells i no_cell).wanted.site row.left
+pub lone_known : (f : Price) → Fair f → (row : Row) (cells : List Cell) (i : ℕ) → Ready row cells → i < length cells → best_site f row (between i (i + 1) cells) ≤ max (get_or cells i no_cell).wanted.site row.left
 lone_known f fair row cells i ready within =
     let c : Cell = get_or cells i no_cell in
     let one : between i (i + 1) cells ≡ c ∷ [] = between_one cells i no_cell within in

@@ -5,7 +5,7 @@ use Rattle.std.proofs.ByRecursion.{All-get_or}
 use Rattle.std.proofs.lemmas.List.{at_drop_more}
 use Rattle.std.proofs.lemmas.Int.{ints, to_z-of_z}
 use Rattle.std.specs.List.{AllByRecursion}
-use Rattle.measure.specs.Costs.{Fair, InRange, step_of}
+use Rattle.measure.specs.Costs.{Fair, InRange, Price, step_of}
 use Rattle.row.specs.Records.{widths}
 use Rattle.row.specs.Sites.{cluster_rise, climbs}
 use Rattle.row.specs.Stack.{Passes, Ready}
@@ -20,7 +20,7 @@ pub in_ranges : (c : Cell) (p : ℕ) → Passes c → p ≤ 65535 → InRange c.
 in_ranges c p passes low = let r = ranged c passes in omega arith
 
 -- its step is at most 2^42 either way
-pub step_bounds : {f : ℕ → ℕ → ℕ → ℕ} → Fair f → (c : Cell) (p : ℕ) → Passes c → p < 65535 → (neg_ℤ (pos (2 ^ 42)) ≤ℤ step_of f c.wanted.site c.weight p) × (step_of f c.wanted.site c.weight p ≤ℤ pos (2 ^ 42))
+pub step_bounds : {f : Price} → Fair f → (c : Cell) (p : ℕ) → Passes c → p < 65535 → (neg_ℤ (pos (2 ^ 42)) ≤ℤ step_of f c.wanted.site c.weight p) × (step_of f c.wanted.site c.weight p ≤ℤ pos (2 ^ 42))
 step_bounds {f} fair c p passes low =
     let here = fair.bounded c.wanted.site c.weight p (in_ranges c p passes (omega arith)) in
     let there = fair.bounded c.wanted.site c.weight (p + 1) (in_ranges c (p + 1) passes (omega arith)) in
@@ -41,16 +41,16 @@ module _ (cells : List Cell) (i : ℕ) (within : i < length cells) where
   widths_more = at_drop_more widths cells i no_cell within
 
   -- the rise of what is left, one cell on
-  pub rise_more : (f : ℕ → ℕ → ℕ → ℕ) (x : ℕ) → cluster_rise f (drop i cells) x ≡ step_of f (get_or cells i no_cell).wanted.site (get_or cells i no_cell).weight x +ℤ cluster_rise f (drop (i + 1) cells) (x + (get_or cells i no_cell).width)
+  pub rise_more : (f : Price) (x : ℕ) → cluster_rise f (drop i cells) x ≡ step_of f (get_or cells i no_cell).wanted.site (get_or cells i no_cell).weight x +ℤ cluster_rise f (drop (i + 1) cells) (x + (get_or cells i no_cell).width)
   rise_more f x = at_drop_more (λ cs. cluster_rise f cs x) cells i no_cell within
 
   -- few cells, and the bounds of the cell's step at a site from which what is left fits the places
-  pub record Stepped (f : ℕ → ℕ → ℕ → ℕ) (x : ℕ) : Type 0 where
+  pub record Stepped (f : Price) (x : ℕ) : Type 0 where
     pub few : length cells ≤ 1024
     pub low : neg_ℤ (pos (2 ^ 42)) ≤ℤ step_of f (get_or cells i no_cell).wanted.site (get_or cells i no_cell).weight x
     pub high : step_of f (get_or cells i no_cell).wanted.site (get_or cells i no_cell).weight x ≤ℤ pos (2 ^ 42)
 
-  pub stepped : {f : ℕ → ℕ → ℕ → ℕ} → Fair f → (row : Row) → Ready row cells → (x : ℕ) → x + widths (drop i cells) ≤ 65535 → Stepped f x
+  pub stepped : {f : Price} → Fair f → (row : Row) → Ready row cells → (x : ℕ) → x + widths (drop i cells) ≤ 65535 → Stepped f x
   stepped fair row ready x inside =
       let r = ranged_at row ready in
       let more = widths_more in
@@ -58,7 +58,7 @@ module _ (cells : List Cell) (i : ℕ) (within : i < length cells) where
       record { few = (ready_known row cells ready).few; low = bounds.0; high = bounds.1 }
 
 -- the rise of abutting cells never falls as they go right
-pub rise_mono : {f : ℕ → ℕ → ℕ → ℕ} → Fair f → (cs : List Cell) (t u : ℕ) → AllByRecursion Passes cs → t ≤ u → u + widths cs ≤ 65535 → cluster_rise f cs t ≤ℤ cluster_rise f cs u
+pub rise_mono : {f : Price} → Fair f → (cs : List Cell) (t u : ℕ) → AllByRecursion Passes cs → t ≤ u → u + widths cs ≤ 65535 → cluster_rise f cs t ≤ℤ cluster_rise f cs u
 rise_mono fair [] t u passed up inside = omega (arith, ints)
 rise_mono {f} fair (c ∷ cs) t u passed up inside =
     let r = ranged c passed.0 in
@@ -67,7 +67,7 @@ rise_mono {f} fair (c ∷ cs) t u passed up inside =
     omega (arith, ints)
 
 -- so what climbs goes on to climb
-pub climbs_on : {f : ℕ → ℕ → ℕ → ℕ} → Fair f → (cs : List Cell) (t u : ℕ) → AllByRecursion Passes cs → t ≤ u → u + widths cs ≤ 65535 → climbs f cs t ≡ true → climbs f cs u ≡ true
+pub climbs_on : {f : Price} → Fair f → (cs : List Cell) (t u : ℕ) → AllByRecursion Passes cs → t ≤ u → u + widths cs ≤ 65535 → climbs f cs t ≡ true → climbs f cs u ≡ true
 climbs_on fair cs t u passed up inside at_t = let more = rise_mono fair cs t u passed up inside in grind (arith, ints)
 
 -- a test of a signed value that was returned is a test of the value

@@ -6,7 +6,7 @@ use Rattle.std.proofs.lemmas.List.{take_more, take_all, reverse-append, length-r
 use Rattle.std.proofs.lemmas.Option.{slice_get_within, get_or_from_slice_get, slice_get_cases}
 use Rattle.std.proofs.lemmas.Bool.{cond-true, cond-false, lt-ltb, le-ltb}
 use Rattle.std.specs.List.{between, slice_get}
-use Rattle.measure.specs.Costs.{Fair}
+use Rattle.measure.specs.Costs.{Fair, Price}
 use Rattle.row.specs.Clusters.{Cluster, at_best, push, settle}
 use Rattle.row.specs.Records.{widths}
 use Rattle.row.specs.Sites.{best_site, reach as reaches, row_clusters}
@@ -78,7 +78,7 @@ settle_push best [] c stack = refl
 settle_push best (d ∷ cs) c stack = settle_push best cs c (push reaches best (at_best reaches best (d ∷ [])) stack)
 
 -- the last cluster, on the clusters that the runs are: what is to come of them once it is pushed
-pub record Pushing (f : ℕ → ℕ → ℕ → ℕ) (row : Row) (cells : List Cell) (past : ℕ) (runs : List Run) (last : Run) : Type 0 where
+pub record Pushing (f : Price) (row : Row) (cells : List Cell) (past : ℕ) (runs : List Run) (last : Run) : Type 0 where
   pub spans : Spans cells past last
   pub tiled : Tiled cells last.first (reverse runs)
   pub sure : Certified (lane f row) (part cells last) last.site
@@ -86,15 +86,15 @@ pub record Pushing (f : ℕ → ℕ → ℕ → ℕ) (row : Row) (cells : List C
   pub comes : push reaches (best_site f row) (cluster_of cells last) (stack_of cells runs) ≡ row_clusters f row (take past cells)
 
 -- the last cluster is put on top of the others as it is
-abbrev pub Rests : (ℕ → ℕ → ℕ → ℕ) → Row → List Cell → List Run → Run → Type 0
+abbrev pub Rests : Price → Row → List Cell → List Run → Run → Type 0
 Rests f row cells runs last = push reaches (best_site f row) (cluster_of cells last) (stack_of cells runs) ≡ cluster_of cells last ∷ stack_of cells runs
 
 -- so it is where there are none
-rests_alone : (f : ℕ → ℕ → ℕ → ℕ) (row : Row) (cells : List Cell) (runs : List Run) (last : Run) → length runs ≡ 0 → Rests f row cells runs last
+rests_alone : (f : Price) (row : Row) (cells : List Cell) (runs : List Run) (last : Run) → length runs ≡ 0 → Rests f row cells runs last
 rests_alone f row cells [] last none = refl
 rests_alone f row cells (k ∷ ks) last none = absurd (omega arith)
 
-module _ {f : ℕ → ℕ → ℕ → ℕ} {row : Row} {cells : List Cell} {n : ℕ} (fair : Fair f) (a : Accepted row cells n) where
+module _ {f : Price} {row : Row} {cells : List Cell} {n : ℕ} (fair : Fair f) (a : Accepted row cells n) where
   abbrev R : Lane Cell
   R = lane f row
 
@@ -248,13 +248,13 @@ module _ {f : ℕ → ℕ → ℕ → ℕ} {row : Row} {cells : List Cell} {n : 
       }
 
 -- what is known where the run on top of the others is b
-pub record Turn (f : ℕ → ℕ → ℕ → ℕ) (row : Row) (cells : List Cell) (past : ℕ) (runs : List Run) (b last : Run) : Type 0 where
+pub record Turn (f : Price) (row : Row) (cells : List Cell) (past : ℕ) (runs : List Run) (b last : Run) : Type 0 where
   pub ends : b.site + b.width ≤ 65535
   pub follows : Follows cells b last
   pub bracketed : last.site < b.site + b.width → Bracketed f row cells b last
   pub again : last.site < b.site + b.width → (r : Run) → AtBest f row cells b.first last.past r → Pushing f row cells past (take (length runs - 1) runs) r
 
-pub turn : {f : ℕ → ℕ → ℕ → ℕ} {row : Row} {cells : List Cell} {past : ℕ} {runs : List Run} {b last : Run} → Fair f → Ready row cells → past ≤ length cells → Some b ≡ slice_get runs (length runs - 1) → Pushing f row cells past runs last → Turn f row cells past runs b last
+pub turn : {f : Price} {row : Row} {cells : List Cell} {past : ℕ} {runs : List Run} {b last : Run} → Fair f → Ready row cells → past ≤ length cells → Some b ≡ slice_get runs (length runs - 1) → Pushing f row cells past runs last → Turn f row cells past runs b last
 turn {f} {row} {cells} {past} {runs} {b} {last} fair ready within at p =
     let a = ready_known row cells ready in
     let top = top_of runs b at in

@@ -3,7 +3,7 @@ use Rattle.std.proofs.Common.{◌≡◌, ℕ, suc, ◌+◌, ◌<◌, ◌≤◌, 
 use Rattle.std.proofs.ByRecursion.{All-weaker}
 use Rattle.std.proofs.lemmas.Bool.{cases_lt}
 use Rattle.std.specs.List.{AllZip, AllByRecursion}
-use Rattle.measure.specs.Costs.{Fair}
+use Rattle.measure.specs.Costs.{Fair, Price}
 use Rattle.row.specs.Records.{before}
 use Rattle.row.specs.Settings.{Placed, placed, EveryPair, Within, Clear, Legal, Rising, InWantedOrder, Setting, Cheapest}
 use Rattle.row.specs.Sites.{best_site, row_sites}
@@ -44,7 +44,7 @@ after_clear p q some clear rising first =
     let up : p.site < q.site = rising.0 first in
     ⊎_elim (λ overlap. absurd (clear q.site (omega arith, overlap) (omega arith, omega arith))) (λ h. h) (cases_lt q.site (p.site + p.cell.width))
 
-module _ (f : ℕ → ℕ → ℕ → ℕ) (row : Row) where
+module _ (f : Price) (row : Row) where
   abbrev R : Lane Cell
   R = lane f row
 

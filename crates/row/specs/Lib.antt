@@ -1,5 +1,6 @@
 pub mod Checked
 pub mod Clusters
+pub mod Costs
 pub mod Records
 pub mod Refusals
 pub mod Settings

@@ -10,8 +10,9 @@
 --   Cheapest          a setting; every other setting costs at least as much, and one that costs the same has no cell further left
 use Rattle.std.specs.Prelude.{◌≡◌, ℕ, ◌+◌, ◌<◌, ◌≤◌, true, List, [], ◌∷◌, length}
 use Rattle.std.specs.List.{AllZip, AllByRecursion}
+use Rattle.measure.specs.Costs.{Price}
 use Rattle.row.specs.Records.{before}
-use Rattle.row.specs.Sites.{sites_cost}
+use Rattle.row.specs.Costs.{sites_cost}
 use Rattle.row.specs.declared.Cell.{Cell}
 use Rattle.row.specs.declared.Row.{Row}
 
@@ -60,7 +61,7 @@ pub record Setting (row : Row) (cells : List Cell) (sites : List ℕ) : Type 0 w
   pub in_order : InWantedOrder (placed cells sites)
 
 -- of all settings the cheapest, and of the cheapest the leftmost
-pub record Cheapest (price : ℕ → ℕ → ℕ → ℕ) (row : Row) (cells : List Cell) (sites : List ℕ) : Type 0 where
+pub record Cheapest (price : Price) (row : Row) (cells : List Cell) (sites : List ℕ) : Type 0 where
   pub setting : Setting row cells sites
   pub cheapest : (others : List ℕ) → Setting row cells others → sites_cost price cells sites ≤ sites_cost price cells others
   pub leftmost : (others : List ℕ) → Setting row cells others → sites_cost price cells others ≡ sites_cost price cells sites → AllZip ◌≤◌ sites others

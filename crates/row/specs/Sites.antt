@@ -7,10 +7,10 @@
 --   reach             from the start of a cluster to where the next may start
 --   row_clusters      the clusters of a row, by joining (see Clusters)
 --   row_sites         the sites of a row's cells
---   sites_cost        the cost of cells at sites
 use Rattle.std.specs.Prelude.{ℕ, zero, suc, ◌+◌, ◌-◌, Bool, cond, List, [], ◌∷◌, ℤ, pos, ◌+ℤ◌, int_le}
-use Rattle.measure.specs.Costs.{step_of}
+use Rattle.measure.specs.Costs.{Price}
 use Rattle.row.specs.Clusters.{Cluster, settle, laid}
+use Rattle.row.specs.Costs.{site_step}
 use Rattle.row.specs.Records.{widths}
 use Rattle.row.specs.declared.Cell.{Cell}
 use Rattle.row.specs.declared.Row.{Row}
@@ -20,19 +20,13 @@ abbrev pub abut : List Cell → ℕ → List ℕ
 abut [] x = []
 abut (c ∷ cs) x = x ∷ abut cs (x + c.width)
 
--- the cost of cells at sites: for each cell, of its site against its wanted site
-abbrev pub sites_cost : (ℕ → ℕ → ℕ → ℕ) → List Cell → List ℕ → ℕ
-sites_cost price [] sites = 0
-sites_cost price (c ∷ cs) [] = 0
-sites_cost price (c ∷ cs) (x ∷ xs) = price c.wanted.site c.weight x + sites_cost price cs xs
-
 -- the rise of cells that abut from x on
-abbrev pub cluster_rise : (ℕ → ℕ → ℕ → ℕ) → List Cell → ℕ → ℤ
+abbrev pub cluster_rise : Price → List Cell → ℕ → ℤ
 cluster_rise price [] x = pos 0
-cluster_rise price (c ∷ cs) x = step_of price c.wanted.site c.weight x +ℤ cluster_rise price cs (x + c.width)
+cluster_rise price (c ∷ cs) x = site_step price c x +ℤ cluster_rise price cs (x + c.width)
 
 -- whether that rise is at least 0
-abbrev pub climbs : (ℕ → ℕ → ℕ → ℕ) → List Cell → ℕ → Bool
+abbrev pub climbs : Price → List Cell → ℕ → Bool
 climbs price cs x = int_le (pos 0) (cluster_rise price cs x)
 
 -- the least place from x on that passes the test, or the last of them, which is n places on
@@ -41,7 +35,7 @@ least test x zero = x
 least test x (suc n) = cond (test x) x (least test (x + 1) n)
 
 -- the best site of a cluster: the least from left to right - its width that is the last of these or has a rise of at least 0
-abbrev pub best_site : (ℕ → ℕ → ℕ → ℕ) → Row → List Cell → ℕ
+abbrev pub best_site : Price → Row → List Cell → ℕ
 best_site price row cs = least (climbs price cs) row.left (row.right - widths cs - row.left)
 
 -- from the start of a cluster to where the next may start: its width
@@ -49,9 +43,9 @@ abbrev pub reach : List Cell → List Cell → ℕ
 reach front back = widths front
 
 -- the clusters of a row, the last first
-abbrev pub row_clusters : (ℕ → ℕ → ℕ → ℕ) → Row → List Cell → List (Cluster Cell)
+abbrev pub row_clusters : Price → Row → List Cell → List (Cluster Cell)
 row_clusters price row cells = settle reach (best_site price row) cells []
 
 -- the sites of a row's cells: the cells of each cluster abut from its site
-abbrev pub row_sites : (ℕ → ℕ → ℕ → ℕ) → Row → List Cell → List ℕ
+abbrev pub row_sites : Price → Row → List Cell → List ℕ
 row_sites price row cells = laid abut (row_clusters price row cells)

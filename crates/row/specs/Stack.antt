@@ -13,6 +13,7 @@
 --   Holds            runs that are the clusters of a row's first cells
 use Rattle.std.specs.Prelude.{◌≡◌, ℕ, ◌+◌, ◌<◌, ◌≤◌, List, [], ◌∷◌, map, reverse, length, take, None}
 use Rattle.std.specs.List.{between}
+use Rattle.measure.specs.Costs.{Price}
 use Rattle.row.specs.Clusters.{Cluster}
 use Rattle.row.specs.Records.{cell_fault, widths}
 use Rattle.row.specs.Refusals.{set_refusal}
@@ -44,7 +45,7 @@ pub record Spans (cells : List Cell) (past : ℕ) (k : Run) : Type 0 where
   pub wide : k.width ≡ widths (part cells k)
 
 -- a run of its own: from `first` up to `past`, at the best site of its cells
-pub record AtBest (price : ℕ → ℕ → ℕ → ℕ) (row : Row) (cells : List Cell) (first past : ℕ) (k : Run) : Type 0 where
+pub record AtBest (price : Price) (row : Row) (cells : List Cell) (first past : ℕ) (k : Run) : Type 0 where
   pub begins : k.first ≡ first
   pub spans : Spans cells past k
   pub best : k.site ≡ best_site price row (part cells k)
@@ -56,7 +57,7 @@ pub record Follows (cells : List Cell) (b k : Run) : Type 0 where
   pub ends : k.past ≤ length cells
 
 -- the best site of two runs as one: not after the first run's site, and not so far before it that the second would start before its own
-pub record Bracketed (price : ℕ → ℕ → ℕ → ℕ) (row : Row) (cells : List Cell) (b k : Run) : Type 0 where
+pub record Bracketed (price : Price) (row : Row) (cells : List Cell) (b k : Run) : Type 0 where
   pub not_after : best_site price row (between b.first k.past cells) ≤ b.site
   pub not_before : k.site ≤ best_site price row (between b.first k.past cells) + b.width
 
@@ -70,6 +71,6 @@ Tiled cells past [] = past ≡ 0
 Tiled cells past (k ∷ ks) = Spans cells past k × Tiled cells k.first ks
 
 -- runs, the last one at the end, that are the clusters of a row's first `taken` cells
-pub record Holds (price : ℕ → ℕ → ℕ → ℕ) (row : Row) (cells : List Cell) (taken : ℕ) (runs : List Run) : Type 0 where
+pub record Holds (price : Price) (row : Row) (cells : List Cell) (taken : ℕ) (runs : List Run) : Type 0 where
   pub tiled : Tiled cells taken (reverse runs)
   pub clusters : stack_of cells runs ≡ row_clusters price row (take taken cells)

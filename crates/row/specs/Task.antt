@@ -3,8 +3,10 @@
 --   set_answer       the cost of the row's sites, or the refusal
 --   set_sites        the row's sites, or, where it refuses, the sites as they were
 use Rattle.std.specs.Prelude.{ℕ, List, length, Some, None, Ok, Err, Option, Result}
+use Rattle.measure.specs.Costs.{Price}
 use Rattle.row.specs.Refusals.{set_refusal}
-use Rattle.row.specs.Sites.{row_sites, sites_cost}
+use Rattle.row.specs.Costs.{sites_cost}
+use Rattle.row.specs.Sites.{row_sites}
 use Rattle.row.specs.declared.Cell.{Cell}
 use Rattle.row.specs.declared.Refusal.{Refusal}
 use Rattle.row.specs.declared.Row.{Row}
@@ -19,8 +21,8 @@ abbrev pub changed : {X E : Type 0} → Option E → X → X → X
 changed None new old = new
 changed (Some refusal) new old = old
 
-abbrev pub set_answer : (ℕ → ℕ → ℕ → ℕ) → Row → List Cell → List ℕ → Result ℕ Refusal
+abbrev pub set_answer : Price → Row → List Cell → List ℕ → Result ℕ Refusal
 set_answer price row cells sites = granted (set_refusal row cells (length sites)) (sites_cost price cells (row_sites price row cells))
 
-abbrev pub set_sites : (ℕ → ℕ → ℕ → ℕ) → Row → List Cell → List ℕ → List ℕ
+abbrev pub set_sites : Price → Row → List Cell → List ℕ → List ℕ
 set_sites price row cells sites = changed (set_refusal row cells (length sites)) (row_sites price row cells) sites

@@ -2,7 +2,8 @@
 ghost use Rattle.std.specs.Prelude.{◌≡◌, ◌+◌, ◌≤◌, ◌++◌, length, take, drop, IfOk};
 ghost use Rattle.row.specs.Records.{widths};
 ghost use Rattle.row.specs.Settings.{Cheapest};
-ghost use Rattle.row.specs.Sites.{abut, row_sites, sites_cost};
+ghost use Rattle.row.specs.Costs.{sites_cost};
+ghost use Rattle.row.specs.Sites.{abut, row_sites};
 ghost use Rattle.row.specs.Stack.{InPlaces, Spans, part};
 ghost use Rattle.row.specs.Task.{set_answer, set_sites};
 

@@ -3,7 +3,7 @@
 --   lives_at_end  the floor at the end obeys the law for what came of them; law_at_end: the same of a job's bytes
 use Rattle.std.proofs.Common.{◌≡◌, ℕ, zero, suc, true, false, cond, List, [], ◌∷◌, ◌++◌, map, reverse, Some, None, Ok, Err, Option, Result, MatchResult, refl, sym, ap, ◌∙◌, subst, append_assoc, append-nil}
 use Rattle.std.proofs.lemmas.List.{reverse-append}
-use Rattle.measure.specs.Costs.{Fair}
+use Rattle.measure.specs.Costs.{Fair, Price}
 use Rattle.measure.specs.Names.{named_price, named_fair}
 use Rattle.measure.specs.declared.name.MeasureName.{MeasureName}
 use Rattle.floor.specs.State.{measure_of, rows_of, seats_of}
@@ -43,7 +43,7 @@ goes_on index name (Withdrawn number answer) = answer_goes_on index name _ answe
 onto_more : (event : Event) (events history : List Event) → reverse (event ∷ events) ++ history ≡ reverse events ++ event ∷ history
 onto_more event events history = ap (λ es. es ++ history) (reverse-append (event ∷ []) events) ∙ append_assoc (reverse events) (event ∷ []) history
 
-module _ (price : ℕ → ℕ → ℕ → ℕ) where
+module _ (price : Price) where
   -- where a job has ended there is no step
   no_turn : (s : State) → s.ended ≡ true → turn price s ≡ None
   no_turn s is = ap (λ b. cond b None (turn_by price s (next_answer s.reader))) is

@@ -3,6 +3,7 @@ use Rattle.std.proofs.Common.{◌≡◌, ℕ, zero, suc, ◌-◌, ◌<◌, ◌�
 use Rattle.std.proofs.lemmas.Bool.{le-leb}
 use Rattle.std.proofs.Math.Seq.{take-append_seam}
 use Rattle.std.specs.Option.{option_map}
+use Rattle.measure.specs.Costs.{Price}
 use Rattle.history.specs.Events.{rows_then, seats_then}
 use Rattle.job.proofs.Advance.{record_moves}
 use Rattle.job.specs.Format.{Content}
@@ -29,7 +30,7 @@ none_or_less false m n h = h
 abbrev stepped : Option Step → Result (Option Step) ShortBuffer
 stepped step = Ok step
 
-module _ (price : ℕ → ℕ → ℕ → ℕ) (s : State) where
+module _ (price : Price) (s : State) where
   left_by : (t : Said × State) (a : Result (Option Content) unread.Fault) → a ≡ next_answer s.reader → turn_by price s a ≡ Some t → left t.1 < suc (length s.reader.job - s.reader.place)
   left_by t (Ok None) e is = absurd (cc)
   left_by t (Ok (Some c)) e is =

@@ -5,6 +5,7 @@
 --   JobLaw             the floor at the end obeys the law for the calls that the job's records ask for
 --   AtEnd              the floor that is left of a job: none where the job is refused, and else one that obeys the law
 use Rattle.std.specs.Prelude.{◌≡◌, ℕ, zero, suc, cond, List, [], ◌∷◌, map, reverse, Some, None, Ok, Err, Option, Result, MatchResult}
+use Rattle.measure.specs.Costs.{Price}
 use Rattle.floor.specs.Calls.{where_answer}
 use Rattle.floor.specs.Seats.{floor_cost}
 use Rattle.floor.specs.State.{measure_of, rows_of, seats_of}
@@ -36,7 +37,7 @@ abbrev pub record_calls : ℕ → Standing → List Call
 record_calls zero reader = []
 record_calls (suc most) reader = calls_by (record_calls most (next_standing reader)) (next_answer reader)
 
-module _ (price : ℕ → ℕ → ℕ → ℕ) where
+module _ (price : Price) where
   -- what came of a record's call, and of those after it
   abbrev pub events_by : State → List Event → Result (Option Content) unread.Fault → List Event
   events_by s later (Ok None) = []

@@ -8,6 +8,7 @@
 --   no_line_number                          the number of a refusal of a line
 use Rattle.std.specs.Prelude.{ℕ, Bool, cond, List, ◌++◌, length, drop, Some, None, Ok, Err, Option, Result, nat_le, slice_get}
 use Rattle.std.specs.Option.{option_map}
+use Rattle.measure.specs.Costs.{Price}
 use Rattle.floor.specs.Refusals as refusals
 use Rattle.floor.specs.declared.Refusal.TheVariants as refusal
 use Rattle.floor.specs.Seats.{floor_cost}
@@ -52,7 +53,7 @@ abbrev pub buffer_left : List ℕ → Option (Said × State) → List ℕ
 buffer_left buffer None = buffer
 buffer_left buffer (Some t) = written t.0.line buffer
 
-module _ (price : ℕ → ℕ → ℕ → ℕ) where
+module _ (price : Price) where
   -- what a step answers: none where the job has ended
   abbrev pub step_answer : State → List ℕ → Result (Option Step) short.ShortBuffer
   step_answer s buffer = cond (long buffer) (Ok (option_map step_of (turn price s))) (Err short_buffer)
@@ -93,5 +94,5 @@ abbrev pub cell_buffer : State → ℕ → List ℕ → List ℕ
 cell_buffer s k buffer = cond (long buffer) (seat_buffer buffer (slice_get s.seats k)) buffer
 
 -- the line of what all standing cells cost
-abbrev pub costs_text : (ℕ → ℕ → ℕ → ℕ) → State → List ℕ
+abbrev pub costs_text : Price → State → List ℕ
 costs_text price s = cost_text (floor_cost price s.seats)

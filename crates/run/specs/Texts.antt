@@ -7,6 +7,7 @@
 --   job_text            what a job says: its steps and its end, or the fault that it is refused with
 use Rattle.std.specs.Prelude.{ℕ, zero, suc, ◌+◌, List, [], ◌++◌, length, Some, None, Ok, Err, Option, Result}
 use Rattle.std.specs.List.{flat_map}
+use Rattle.measure.specs.Costs.{Price}
 use Rattle.floor.specs.declared.Seat.{Seat}
 use Rattle.job.specs.Opening.{Opened, open_answer}
 use Rattle.job.specs.declared.record.Fault as unread
@@ -26,7 +27,7 @@ abbrev pub turn_text : (State → List ℕ) → Option (Said × State) → List 
 turn_text after None = []
 turn_text after (Some t) = t.0.line ++ after t.1
 
-module _ (price : ℕ → ℕ → ℕ → ℕ) where
+module _ (price : Price) where
   -- what the steps from a state on say, of at most so many
   abbrev pub steps_text : ℕ → State → List ℕ
   steps_text zero s = []

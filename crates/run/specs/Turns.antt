@@ -8,6 +8,7 @@
 --   turn price s             what a step says and the state after it; none where the job has ended
 use Rattle.std.specs.Prelude.{ℕ, Bool, false, cond, List, Some, None, Ok, Err, Option, Result}
 use Rattle.std.specs.Option.{option_map}
+use Rattle.measure.specs.Costs.{Price}
 use Rattle.floor.specs.declared.Placing.{Placing}
 use Rattle.floor.specs.declared.Refusal.{Refusal}
 use Rattle.floor.specs.declared.Seat.{Seat}
@@ -85,7 +86,7 @@ ended_by (Some fault) = ends fault
 abbrev pub passed : State → Said → List Row → List Seat → Said × State
 passed s said rows seats = (said, record { reader = next_standing s.reader; rows = rows; seats = seats; ended = ended_by said.fault })
 
-module _ (price : ℕ → ℕ → ℕ → ℕ) where
+module _ (price : Price) where
   -- what came of a record's call, with the rows and seats before it
   abbrev pub event_in : State → Content → Event
   event_in s c = event_of price s.rows s.seats (call_in c)

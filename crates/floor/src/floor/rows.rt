@@ -1,6 +1,7 @@
 // Making a floor, and adding rows to it.
 ghost use Rattle.std.specs.Prelude.{◌≡◌, ℕ, [], IfOk};
 ghost use Rattle.std.specs.List.{list_any};
+ghost use Rattle.measure.specs.Costs.{Price};
 ghost use Rattle.row.specs.Checked.{checked};
 ghost use Rattle.floor.specs.Calls.{rows_after};
 ghost use Rattle.floor.specs.Refusals.{add_refusal};
@@ -63,7 +64,7 @@ impl<M: Drop> Floor<M> {
         ensures rows { rows_of self.new ≡ rows_after (rows_of self.old) row }
         ensures seats { seats_of self.new ≡ seats_of self.old }
         ensures same { self.new.measure ≡ self.old.measure }
-        ensures stays_set { (price : ℕ → ℕ → ℕ → ℕ) → Settled price (rows_of self.old) (seats_of self.old)
+        ensures stays_set { (price : Price) → Settled price (rows_of self.old) (seats_of self.old)
             → Settled price (rows_of self.new) (seats_of self.new) }
     {
         self.check_row(&row)?;

@@ -1,7 +1,8 @@
 // Setting a row: its cells are gathered, and its seats moved to their sites.
 ghost use Rattle.std.specs.Prelude.{◌≡◌, ◌+◌, ◌<◌, ◌≤◌, false, length, None};
 ghost use Rattle.row.specs.Records.{cell_fault};
-ghost use Rattle.row.specs.Sites.{row_sites, sites_cost};
+ghost use Rattle.row.specs.Costs.{sites_cost};
+ghost use Rattle.row.specs.Sites.{row_sites};
 ghost use Rattle.row.specs.Stack.{Ready};
 ghost use Rattle.floor.specs.Calls.{seated, without};
 ghost use Rattle.floor.specs.Refusals.{stands};

@@ -3,7 +3,7 @@ ghost use Rattle.std.specs.Prelude.{◌≡◌, ◌^◌, ◌≤◌, length};
 ghost use Rattle.std.specs.List.{prefix_len};
 ghost use Rattle.row.specs.Records.{widths};
 ghost use Rattle.floor.specs.Refusals.{has_sites};
-ghost use Rattle.floor.specs.Seats.{site_cost, cells_on, on_row, row_key, row_cost, seats_on, Sited};
+ghost use Rattle.floor.specs.Seats.{seat_cost, cells_on, on_row, row_key, row_cost, seats_on, Sited};
 ghost use Rattle.floor.specs.Spans.{Spanned};
 
 use crate::Seat;
@@ -40,7 +40,7 @@ impl Seat {
     // What the site of a seat costs.
     fn site_cost<M: Measure>(&self, measure: &M) -> u64
         requires { Sited self.now }
-        ensures { result ≡ site_cost (M.price measure.now) self.now }
+        ensures { result ≡ seat_cost (M.price measure.now) self.now }
     {
         let Seat { cell, row: _, site } = self;
         measure.price_at(cell.wanted.site as u16, cell.weight as u16, *site as u16)

@@ -1,6 +1,7 @@
 use Rattle.std.proofs.Common.{◌≡◌, ◌+◌, ◌++◌, take, drop}
 use Rattle.row.specs.Records.{widths}
-use Rattle.row.specs.Sites.{abut, sites_cost}
+use Rattle.row.specs.Costs.{sites_cost}
+use Rattle.row.specs.Sites.{abut}
 use Rattle.row.proofs.task.Task.abut_from.Given as goal
 
 -- what is written and added up, and what is still to come, make the whole

@@ -1,7 +1,8 @@
 use Rattle.std.proofs.Common.{Ok, sym, ap, ◌∙◌, subst}
 use Rattle.row.specs.Refusals.{set_refusal}
 use Rattle.row.specs.Settings.{Cheapest}
-use Rattle.row.specs.Sites.{row_sites, sites_cost}
+use Rattle.row.specs.Costs.{sites_cost}
+use Rattle.row.specs.Sites.{row_sites}
 use Rattle.row.specs.Task.{granted, changed}
 use Rattle.row.proofs.Accepted.{ready_known}
 use Rattle.row.proofs.Subject.{row_cheapest}

@@ -1,6 +1,6 @@
 use Rattle.std.proofs.Common.{ap, ◌∙◌, refl, arith}
 use Rattle.std.proofs.ByRecursion.{All-get_or}
-use Rattle.row.specs.Sites.{sites_cost}
+use Rattle.row.specs.Costs.{sites_cost}
 use Rattle.row.specs.Stack.{InPlaces}
 use Rattle.row.proofs.Accepted.{ready_known}
 use Rattle.row.proofs.Defaults.{no_run}

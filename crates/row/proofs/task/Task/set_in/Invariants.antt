@@ -1,5 +1,5 @@
 use Rattle.row.proofs.Laying.{Laid}
-use Rattle.row.specs.Sites.{sites_cost}
+use Rattle.row.specs.Costs.{sites_cost}
 use Rattle.std.proofs.Common.{◌≡◌, ℕ, ◌*◌, ◌^◌, ◌≤◌, take}
 use Rattle.row.proofs.task.Task.set_in.Given as goal
 

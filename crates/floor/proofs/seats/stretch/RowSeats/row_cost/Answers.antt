@@ -3,8 +3,8 @@ use Rattle.std.proofs.ByRecursion.{All-get_or}
 use Rattle.std.proofs.lemmas.Iterator.{YieldsList-from_slice, YieldsList-from_map}
 use Rattle.std.proofs.lemmas.Iterator.Adapters.{serves_from_places}
 use Rattle.std.proofs.lemmas.Iterator.Consumers.{sum_by_from_yields_List, fits_by_from_yields_list}
-use Rattle.floor.specs.Seats.{Sited, site_cost, cell_of, site_of}
-use Rattle.row.specs.Sites.{sites_cost}
+use Rattle.floor.specs.Seats.{Sited, seat_cost, cell_of, site_of}
+use Rattle.row.specs.Costs.{sites_cost}
 use Rattle.floor.proofs.Costs.{sites_bound, sites_sum}
 use Rattle.floor.proofs.Stretch.{on_sited}
 use Rattle.floor.proofs.seats.stretch.RowSeats.row_cost.Goals as goal
@@ -24,7 +24,7 @@ sum-requires-clause-fits g c =
     let seats = self.seats.now in
     let bound = sites_bound (g.met.M.Measure.fair c.args.measure.now) seats (on_sited self.row table.items.items seats self.own table.sited) in
     let few = self.few in
-    fits_by_from_yields_list (site_cost f) seats c.map.result _ (YieldsList-from_map _ (site_cost f) (YieldsList-from_slice seats cc) c.map.ensures.closure (λ x r q k. search rules)) (omega arith)
+    fits_by_from_yields_list (seat_cost f) seats c.map.result _ (YieldsList-from_map _ (seat_cost f) (YieldsList-from_slice seats cc) c.map.ensures.closure (λ x r q k. search rules)) (omega arith)
 
 pub returns : goal.returns
 returns g c =
@@ -32,7 +32,7 @@ returns g c =
     let self = c.args.self.now in
     let table = self.table.now in
     let seats = self.seats.now in
-    let sum = sum_by_from_yields_List (site_cost f) seats c.map.result c.sum.result c.sum.ensures.ran (YieldsList-from_map _ (site_cost f) (YieldsList-from_slice seats cc) c.map.ensures.closure (λ x r q k. search rules)) in
+    let sum = sum_by_from_yields_List (seat_cost f) seats c.map.result c.sum.result c.sum.ensures.ran (YieldsList-from_map _ (seat_cost f) (YieldsList-from_slice seats cc) c.map.ensures.closure (λ x r q k. search rules)) in
     let bound = sites_bound (g.met.M.Measure.fair c.args.measure.now) seats (on_sited self.row table.items.items seats self.own table.sited) in
     let few = self.few in
     record { value = sum ∙ sites_sum f seats ∙ ap (λ l. sites_cost f (map cell_of l) (map site_of l)) self.own; bound = omega arith }
