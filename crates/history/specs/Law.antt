@@ -75,8 +75,8 @@ Answers price rows earlier before (event.Placed cell answer) after =
 Answers price rows earlier before (event.Tried cell answer) after =
     FullExactly rows earlier cell answer
     × IfOk answer (λ placing. (instead : Where)
-      × Granted price rows earlier before cell placing instead
-      × Holds price (with_placed rows earlier cell placing) instead)
+    × Granted price rows earlier before cell placing instead
+    × Holds price (with_placed rows earlier cell placing) instead)
 Answers price rows earlier before (event.Withdrawn number answer) after = answer ≡ before number
 
 -- An event after a history, with the answers of where_is before and after it: its call is granted, or

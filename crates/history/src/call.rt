@@ -36,14 +36,8 @@ pub enum Event {
 }
 
 impl Call {
-    /// Makes the call on a floor. Answers the event: the call with the floor's answer.
-    ///
-    /// Whatever history the floor has, it then has that history with the event. Beside this law the
-    /// contract gives the very event, and the very rows and seats that the floor holds then.
-    #[tactic(auto, using(crate::proofs::Lawful::lawful_step))]
-    pub fn make<M: Measure>(self, floor: &mut Floor<M>) -> Event
-        ensures law { (history : List Event) → Lawful history floor.old
-            → Lawful (result ∷ history) floor.new }
+    // Calls the floor by the method of the call's name; `make` says that the law holds then.
+    fn event_on<M: Measure>(self, floor: &mut Floor<M>) -> Event
         ensures call { call_of result ≡ self }
         ensures event { result ≡ event_of (price_of floor.old) (tables_of floor.old) self }
         ensures tables { tables_of floor.new
@@ -56,5 +50,21 @@ impl Call {
             Call::Try(cell) => Event::Tried(cell, floor.try_place(cell)),
             Call::Withdraw(number) => Event::Withdrawn(number, floor.withdraw(number)),
         }
+    }
+
+    /// Makes the call on a floor. Answers the event: the call with the floor's answer.
+    ///
+    /// Whatever history the floor has, it then has that history with the event. Beside this law the
+    /// contract gives the very event, and the very rows and seats that the floor holds then.
+    pub fn make<M: Measure>(self, floor: &mut Floor<M>) -> Event
+        ensures law { (history : List Event) → Lawful history floor.old
+            → Lawful (result ∷ history) floor.new }
+        ensures call { call_of result ≡ self }
+        ensures event { result ≡ event_of (price_of floor.old) (tables_of floor.old) self }
+        ensures tables { tables_of floor.new
+            ≡ tables_then (price_of floor.old) (tables_of floor.old) self }
+        ensures same { measure_of floor.new ≡ measure_of floor.old }
+    {
+        self.event_on(floor)
     }
 }

@@ -1,5 +1,5 @@
 //! Lists of calls, made on a floor from the first on, and the law for them.
-ghost use Rattle.std.specs.Prelude.{◌≡◌, List, [], ◌++◌, length, map, reverse, take, drop};
+ghost use Rattle.std.specs.Prelude.{◌≡◌, List, [], ◌++◌, length, map, reverse, take, drop, min};
 ghost use Rattle.floor.specs.State.{measure_of, price_of, tables_of};
 ghost use Rattle.floor.specs.Tables.{no_tables};
 ghost use Rattle.history.specs.Events.{events_of, tables_after};
@@ -25,17 +25,25 @@ pub fn begin<M: Measure>(measure: M) -> Floor<M>
 /// Makes calls on a floor, from the first on, and fills in their events: as many as there are both
 /// calls and room for events. Events past these stay.
 ///
-/// Whatever history the floor has, it then has that history with these events.
+/// Whatever history the floor has, it then has that history with these events. Beside this law the
+/// contract gives the very events, and the very rows and seats that the floor holds then.
+#[tactic(auto, using(crate::proofs::Told::one_more))]
 pub fn make_all<M: Measure>(floor: &mut Floor<M>, calls: &[Call], events: &mut [Event])
-    ensures law { (history : List Event) → Lawful history floor.old
-        → Lawful (reverse (take (length calls.now) events.new) ++ history) floor.new }
-    ensures calls { map call_of (take (length calls.now) events.new)
-        ≡ take (length events.old) calls.now }
-    ensures rest { drop (length calls.now) events.new ≡ drop (length calls.now) events.old }
-    ensures events { take (length calls.now) events.new
-        ≡ events_of (price_of floor.old) (tables_of floor.old) (take (length events.old) calls.now) }
-    ensures tables { tables_of floor.new
-        ≡ tables_after (price_of floor.old) (tables_of floor.old) (take (length events.old) calls.now) }
+    ensures law { let n = min (length calls.now) (length events.old) in
+        (history : List Event) → Lawful history floor.old
+        → Lawful (reverse (take n events.new) ++ history) floor.new }
+    ensures alone { let n = min (length calls.now) (length events.old) in
+        Lawful [] floor.old → Lawful (reverse (take n events.new)) floor.new }
+    ensures calls { let n = min (length calls.now) (length events.old) in
+        map call_of (take n events.new) ≡ take n calls.now }
+    ensures rest { let n = min (length calls.now) (length events.old) in
+        drop n events.new ≡ drop n events.old }
+    ensures events { let n = min (length calls.now) (length events.old) in
+        take n events.new
+        ≡ events_of (price_of floor.old) (tables_of floor.old) (take n calls.now) }
+    ensures tables { let n = min (length calls.now) (length events.old) in
+        tables_of floor.new
+        ≡ tables_after (price_of floor.old) (tables_of floor.old) (take n calls.now) }
     ensures same { measure_of floor.new ≡ measure_of floor.old }
 {
     let n = calls.len().min(events.len());
@@ -51,14 +59,16 @@ pub fn make_all<M: Measure>(floor: &mut Floor<M>, calls: &[Call], events: &mut [
 /// settings worked by hand come out as worked.
 #[tactic(auto, using(crate::proofs::Unique::no_slack, crate::proofs::Worked::worked_out))]
 pub fn carry_out<M: Measure>(measure: M, calls: &[Call], events: &mut [Event]) -> Floor<M>
-    ensures law { Lawful (reverse (take (length calls.now) events.new)) result }
-    ensures calls { map call_of (take (length calls.now) events.new)
-        ≡ take (length events.old) calls.now }
-    ensures rest { drop (length calls.now) events.new ≡ drop (length calls.now) events.old }
-    ensures events { take (length calls.now) events.new
-        ≡ events_of (M.price measure) no_tables (take (length events.old) calls.now) }
-    ensures tables { tables_of result
-        ≡ tables_after (M.price measure) no_tables (take (length events.old) calls.now) }
+    ensures law { let n = min (length calls.now) (length events.old) in
+        Lawful (reverse (take n events.new)) result }
+    ensures calls { let n = min (length calls.now) (length events.old) in
+        map call_of (take n events.new) ≡ take n calls.now }
+    ensures rest { let n = min (length calls.now) (length events.old) in
+        drop n events.new ≡ drop n events.old }
+    ensures events { let n = min (length calls.now) (length events.old) in
+        take n events.new ≡ events_of (M.price measure) no_tables (take n calls.now) }
+    ensures tables { let n = min (length calls.now) (length events.old) in
+        tables_of result ≡ tables_after (M.price measure) no_tables (take n calls.now) }
     ensures same { measure_of result ≡ measure }
     ensures no_slack { NoSlack }
     ensures worked { WorkedOut }
@@ -74,5 +84,4 @@ pub fn carry_out<M: Measure>(measure: M, calls: &[Call], events: &mut [Event]) -
 pub fn one_floor<M: Measure, N: Measure>(a: &Floor<M>, b: &Floor<N>)
     ensures { (history : List Event) → price_of a.now ≡ price_of b.now → Lawful history a.now
         → Lawful history b.now → tables_of a.now ≡ tables_of b.now }
-{
-}
+{}
