@@ -20,12 +20,14 @@ stands_ahead s t = row_ahead s.row t.row || (same_row s.row t.row && nat_lt s.si
 
 -- the seat of a standing cell: on its row, at the site that where_is answers for its number
 abbrev pub seat_at : Where → Standing → Seat
-seat_at where_is k = record { cell = k.cell; row = k.row; site = site_in where_is k.cell.number }
+seat_at where_is k =
+    record { cell = k.cell; row = k.row; site = site_in where_is k.cell.number }
 
 -- A floor has this history, the latest event first: its answers obey the law, and its cost is the
 -- sum over what stands. Its rows are those that stand, in row order. Its seats are the cells that
 -- stand, each on its row and at the site that where_is answers, in row order and then by site.
-pub record Lawful {M : Type 0} {m : Ghosts M} (history : List Event) (floor : Floor M m) : Type 0 where
+pub record Lawful {M : Type 0} {m : Ghosts M} (history : List Event) (floor : Floor M m)
+    : Type 0 where
   pub law : Law (price_of floor) history (where_is (tables_of floor))
   pub costs : floor_cost (price_of floor) (seats_of floor)
       ≡ cost (price_of floor) (standing_in history) (site_in (where_is (tables_of floor)))
