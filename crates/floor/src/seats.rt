@@ -1,5 +1,5 @@
 // The table of seats inside a floor: its order, and what it always keeps.
-ghost use Rattle.std.specs.Prelude.{◌≤◌, false, vec_len, vec_capacity};
+ghost use Rattle.std.specs.Prelude.{◌≤◌, vec_len, vec_capacity};
 ghost use Rattle.std.specs.List.{AllByRecursion};
 ghost use Rattle.std.proofs.Common.{rules};
 ghost use Rattle.std.proofs.Props.{props};
