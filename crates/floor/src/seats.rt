@@ -1,5 +1,5 @@
 // The table of seats inside a floor: its order, and what it always keeps.
-ghost use Rattle.std.specs.Prelude.{◌≤◌, false, length};
+ghost use Rattle.std.specs.Prelude.{◌≤◌, length};
 ghost use Rattle.std.specs.List.{AllByRecursion};
 ghost use Rattle.std.proofs.Common.{rules};
 ghost use Rattle.std.proofs.Props.{props};

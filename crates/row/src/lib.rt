@@ -3,6 +3,7 @@
 
 mod check;
 mod cluster;
+mod moves;
 mod order;
 mod setting;
 mod task;

@@ -42,8 +42,7 @@ impl Seat {
         requires { Sited self.now }
         ensures { result ≡ seat_cost (M.price measure.now) self.now }
     {
-        let Seat { cell, row: _, site } = self;
-        measure.price_at(cell.wanted.site as u16, cell.weight as u16, *site as u16)
+        self.cell.site_cost(measure, self.site)
     }
 
     // Whether a seat is on a row.
