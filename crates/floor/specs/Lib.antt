@@ -6,8 +6,8 @@ pub mod Calls
 pub mod Choices
 pub mod Formed
 pub mod Kept
+pub mod Offers
 pub mod Settled
 pub mod Spans
 pub mod State
 pub mod Tables
-pub mod Walks

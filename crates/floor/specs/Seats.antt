@@ -12,8 +12,8 @@
 --   CanTake          that a row can be set with a cell more
 --   settled          the seats once a row is set: only the sites of its own seats are rewritten
 --   floor_cost       the cost of all seats: of their sites and of their lines
-use Rattle.std.specs.Prelude.{ℕ, ◌+◌, ◌≤◌, Bool, cond, ◌&&◌, ◌||◌, List, [], ◌∷◌, map, filter}
-use Rattle.std.specs.List.{insert}
+use Rattle.std.specs.Prelude.{ℕ, ◌+◌, ◌≤◌, Bool, cond, ◌&&◌, ◌||◌, List, [], ◌∷◌, Option, map, filter, nat_eq}
+use Rattle.std.specs.List.{insert, position_from}
 use Rattle.measure.specs.Costs.{Price}
 use Rattle.row.specs.Records.{before, row_ahead}
 use Rattle.row.specs.Costs.{line_cost, site_cost, sites_cost}
@@ -41,6 +41,10 @@ costs_by cell_of row_of site_of price (x ∷ xs) = cell_cost price (cell_of x) (
 -- whether a seat is on a row
 abbrev pub on_row : Row → Seat → Bool
 on_row row s = same_row s.row row
+
+-- where the seat of a number is among some seats
+abbrev pub seat_index : ℕ → List Seat → Option ℕ
+seat_index number seats = position_from (λ s. nat_eq s.cell.number number) 0 seats
 
 -- the order of seats: by row order, then by wanted order
 abbrev pub seat_ahead : Seat → Seat → Bool

@@ -2,7 +2,7 @@ use Rattle.std.proofs.Common.{rules, tests}
 use Rattle.std.proofs.lemmas.Iterator.{YieldsList-from_slice}
 use Rattle.std.proofs.lemmas.Iterator.Search.{any_from_yields_List}
 use Rattle.floor.specs.Rows.{share}
-use Rattle.floor.proofs.floor.rows.shares_any.Goals as goal
+use Rattle.floor.proofs.floor.shares_any.Goals as goal
 
 pub returns : goal.returns
 returns c =
