@@ -1,6 +1,7 @@
 pub mod Checked
 pub mod Clusters
 pub mod Costs
+pub mod Reasons
 pub mod Records
 pub mod Refusals
 pub mod Settings
