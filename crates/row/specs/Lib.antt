@@ -4,6 +4,7 @@ pub mod Costs
 pub mod Reasons
 pub mod Records
 pub mod Refusals
+pub mod Rounding
 pub mod Settings
 pub mod Sites
 pub mod Stack

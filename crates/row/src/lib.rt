@@ -7,9 +7,11 @@ mod moves;
 mod order;
 mod refusals;
 mod setting;
+mod squared;
 mod task;
 
 pub use setting::set;
+pub use squared::squared_best_sites;
 pub use task::Task;
 
 // How many cells a row is set with at most.
