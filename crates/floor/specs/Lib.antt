@@ -1,6 +1,7 @@
 pub mod Rows
 pub mod Seats
 pub mod Ranks
+pub mod Reasons
 pub mod Refusals
 pub mod Calls
 pub mod Choices

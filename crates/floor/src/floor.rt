@@ -52,10 +52,11 @@ impl<M: Measure> Floor<M> {
     ghost use Rattle.floor.specs.Calls.{add_row, place, try_place, where_is, withdraw};
     ghost use Rattle.floor.specs.Choices.{best_choice, sites_with};
     ghost use Rattle.floor.specs.Refusals.{add_refusal, cell_refusal};
-    ghost use Rattle.floor.specs.Seats.{floor_cost};
+    ghost use Rattle.floor.specs.Seats.{floor_cost, stands_ahead};
     ghost use Rattle.floor.specs.Settled.{Least, CostsMore};
     ghost use Rattle.floor.specs.State.{measure_of, price_of, rows_of, seats_of, tables_of};
     ghost use Rattle.floor.specs.Tables.{no_tables};
+    ghost use Rattle.table.specs.Order.{Ordered};
 
     /// An empty floor with a measure.
     pub fn new(measure: M) -> Floor<M>
@@ -209,9 +210,12 @@ impl<M: Measure> Floor<M> {
         sum
     }
 
-    /// The `k`-th seat, from 0 on, in row order and on one row by site.
+    /// The `k`-th seat, from 0 on, in row order and on one row by site; none from the number of
+    /// standing cells on.
+    #[tactic(auto, using(crate::proofs::Listed::formed_standing))]
     pub fn seat(&self, k: usize) -> Option<Seat>
-        ensures { result ≡ slice_get (seats_of self.now) k }
+        ensures value { result ≡ slice_get (seats_of self.now) k }
+        ensures in_order { Ordered stands_ahead (seats_of self.now) }
     {
         self.seats.as_slice().get(k).copied()
     }

@@ -4,8 +4,8 @@
 mod cells;
 mod choice;
 mod floor;
-mod numbers;
 mod offered;
+mod refusals;
 mod seats;
 
 pub use floor::Floor;
