@@ -5,6 +5,7 @@ ghost use Rattle.std.proofs.Props.{props};
 ghost use Rattle.floor.specs.Formed.{formed};
 ghost use Rattle.floor.specs.Rows.{share};
 ghost use Rattle.floor.specs.Settled.{Settled};
+ghost use Rattle.floor.specs.declared.floor.TheConstants.{MOST_ROWS};
 
 use crate::cells::RowSites;
 use crate::choice::{Choice, Offer};
@@ -27,7 +28,7 @@ pub struct Floor<M: Measure> {
     measure: M,
     rows: ArrayVec<Row, MOST_ROWS>,
     seats: Seats,
-    ghost few: { length rows.items ≤ 64 },
+    ghost few: { length rows.items ≤ MOST_ROWS },
     ghost well: { formed rows.items seats.items.items ≡ true },
     ghost set: { Settled (M.price measure) rows.items seats.items.items } by { Prim.hlevel props },
 }
@@ -168,7 +169,8 @@ impl<M: Measure> Floor<M> {
     ///
     /// Refuses a number that does not stand (8); then nothing changes.
     pub fn withdraw(&mut self, number: u32) -> Result<Spot, Refusal>
-        ensures answer { result ≡ (withdraw (price_of self.old) (tables_of self.old) number).answer }
+        ensures answer { result
+            ≡ (withdraw (price_of self.old) (tables_of self.old) number).answer }
         ensures tables { tables_of self.new
             ≡ (withdraw (price_of self.old) (tables_of self.old) number).tables }
         ensures same { measure_of self.new ≡ measure_of self.old }
