@@ -139,6 +139,7 @@ impl<M: Measure> Floor<M> {
     /// Refuses a cell with a field outside its range (1 to 4), one whose number stands (5), one
     /// that comes when 1,024 cells stand (6), and one for which no row has sites (7). What is
     /// refused changes nothing.
+    #[tactic(auto, using(crate::proofs::Placed::full_answer, crate::proofs::Placed::full_tables))]
     pub fn place(&mut self, cell: Cell) -> Result<Placing, Refusal>
         ensures answer { result ≡ (place (price_of self.old) (tables_of self.old) cell).answer }
         ensures tables { tables_of self.new
@@ -150,24 +151,28 @@ impl<M: Measure> Floor<M> {
     {
         self.check_cell(&cell)?;
         let mut sites = RowSites::new();
-        let choice = self.choose(cell, &mut sites).ok_or(Refusal::NoRoom)?;
+        let Some(choice) = self.choose(cell, &mut sites) else {
+            return Err(Refusal::NoRoom);
+        };
         self.seats.seat(choice.row, cell, sites.as_slice());
         Ok(choice.placing)
     }
 
     /// What `place` would answer for a cell. Nothing changes.
+    #[tactic(auto, using(crate::proofs::Placed::tried))]
     pub fn try_place(&self, cell: Cell) -> Result<Placing, Refusal>
         ensures { result ≡ (try_place (price_of self.now) (tables_of self.now) cell).answer }
     {
         self.check_cell(&cell)?;
-        let mut sites = RowSites::new();
-        let choice = self.choose(cell, &mut sites).ok_or(Refusal::NoRoom)?;
-        Ok(choice.placing)
+        self.choose(cell, &mut RowSites::new())
+            .map(|choice| choice.placing)
+            .ok_or(Refusal::NoRoom)
     }
 
     /// Takes the cell of a number out, and sets its row again. Answers where the cell stood.
     ///
     /// Refuses a number that does not stand (8); then nothing changes.
+    #[tactic(auto, using(crate::proofs::Leaving::not_found))]
     pub fn withdraw(&mut self, number: u32) -> Result<Spot, Refusal>
         ensures answer { result
             ≡ (withdraw (price_of self.old) (tables_of self.old) number).answer }

@@ -55,8 +55,8 @@ impl Seats {
         requires places { AllByRecursion (λ x. x ≤ LAST_PLACE) sites.now }
         ensures { self.new.items.items ≡ resited row sites.now self.old.items.items }
     {
-        let stretch = self.stretch_of(row);
-        move_to(&mut self.items[stretch.start..stretch.end], sites);
+        let own = self.stretch_of(row);
+        move_to(&mut self.items[own.start..own.end], sites);
     }
 
     /// Puts a cell on a row, in its place, and moves the seats of the row to sites.
