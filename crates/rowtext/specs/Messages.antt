@@ -25,7 +25,8 @@ message TooLarge = codes "a number is at most 4294967295"
 
 -- why a text has no answer
 abbrev pub complaint : Trouble → List ℕ
-complaint (unreadable why) = codes "line " ++ (decimal why.line ++ (codes ": " ++ message why.reason))
+complaint (unreadable why) =
+    codes "line " ++ (decimal why.line ++ (codes ": " ++ message why.reason))
 complaint TooLong = codes "the input is longer than 1048576 bytes"
 complaint NoMemory = codes "no memory for the row"
 complaint NotRead = codes "the input cannot be read"

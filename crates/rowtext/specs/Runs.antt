@@ -11,7 +11,7 @@ use Rattle.rowtext.specs.Reading.{Given, lines_in, reads_as}
 use Rattle.rowtext.specs.Rooms.{Capacity}
 use Rattle.rowtext.specs.Shown.{said}
 use Rattle.rowtext.specs.Steps.{then}
-use Rattle.rowtext.specs.Streams.{Delivered}
+use Rattle.rowtext.specs.Streams.{Delivered, Ending}
 
 -- what is said of a text; or which line cannot be read, and why
 abbrev pub answer_to : List ℕ → Result (List ℕ) Unreadable
@@ -24,10 +24,13 @@ bytes_said (Err why) = []
 
 -- a buffer for the cells, the sites or the answer has less room than the text may want
 abbrev pub LacksFor : Capacity → List ℕ → Type 0
-LacksFor room text = (room.cells < lines_in text) ⊎ (room.sites < lines_in text) ⊎ (room.said < length (bytes_said (answer_to text)))
+LacksFor room text =
+    (room.cells < lines_in text)
+    ⊎ (room.sites < lines_in text)
+    ⊎ (room.said < length (bytes_said (answer_to text)))
 
 -- how the answer to a text ended, in these buffers: with these bytes, or why not
-abbrev pub Answered : Capacity → List ℕ → List ℕ → Result (Unit {0}) Trouble → Type 0
+abbrev pub Answered : Capacity → List ℕ → List ℕ → Ending → Type 0
 Answered room text bytes (Ok done) = answer_to text ≡ Ok bytes
 Answered room text bytes (Err (unreadable why)) = answer_to text ≡ Err why
 Answered room text bytes (Err NoMemory) = LacksFor room text
@@ -39,18 +42,28 @@ Answered room text bytes (Err NotWritten) = ⊥
 abbrev pub IsWhole : Type 0 → List ℕ → Type 0
 IsWhole at_end read = at_end × (length read ≤ MOST_BYTES)
 
+-- the answer to what was read begins with these bytes
+abbrev pub Begins : List ℕ → List ℕ → Type 0
+Begins read put = (bytes : List ℕ) × (answer_to read ≡ Ok bytes) × StartsWith bytes put
+
 -- how a run ended that read these bytes and put those on its output
-abbrev pub RunEnds : Capacity → Type 0 → Type 0 → Type 0 → List ℕ → List ℕ → Result (Unit {0}) Trouble → Type 0
-RunEnds room at_end unread unwritten read put (Ok done) = IsWhole at_end read × (answer_to read ≡ Ok put)
-RunEnds room at_end unread unwritten read put (Err (unreadable why)) = IsWhole at_end read × (answer_to read ≡ Err why) × (put ≡ [])
-RunEnds room at_end unread unwritten read put (Err TooLong) = (MOST_BYTES < length read) × (put ≡ [])
-RunEnds room at_end unread unwritten read put (Err NoMemory) = ((room.text < length read) ⊎ (IsWhole at_end read × LacksFor room read)) × (put ≡ [])
+abbrev pub RunEnds : Capacity → Type 0 → Type 0 → Type 0 → List ℕ → List ℕ → Ending → Type 0
+RunEnds room at_end unread unwritten read put (Ok done) =
+    IsWhole at_end read × (answer_to read ≡ Ok put)
+RunEnds room at_end unread unwritten read put (Err (unreadable why)) =
+    IsWhole at_end read × (answer_to read ≡ Err why) × (put ≡ [])
+RunEnds room at_end unread unwritten read put (Err TooLong) =
+    (MOST_BYTES < length read) × (put ≡ [])
+RunEnds room at_end unread unwritten read put (Err NoMemory) =
+    ((room.text < length read) ⊎ (IsWhole at_end read × LacksFor room read)) × (put ≡ [])
 RunEnds room at_end unread unwritten read put (Err NotRead) = unread × (put ≡ [])
 RunEnds room at_end unread unwritten read put (Err NotWritten) =
-    IsWhole at_end read × unwritten × ((bytes : List ℕ) × (answer_to read ≡ Ok bytes) × StartsWith bytes put)
+    IsWhole at_end read × unwritten × Begins read put
 
--- a run: what it read, no more than it needs, what it put behind what stood on its output, and how it ended
-pub record Ran (room : Capacity) (before after out_before out_after : Option (List ℕ)) (unread unwritten : Type 0) (r : Result (Unit {0}) Trouble) : Type 0 where
+-- a run: what it read, no more than it needs, what it put behind what stood on its output, and how
+-- it ended
+pub record Ran (room : Capacity) (before after out_before out_after : Option (List ℕ))
+    (unread unwritten : Type 0) (r : Ending) : Type 0 where
   pub read : List ℕ
   pub consumed : Consumes before after read
   pub little : length read ≤ MOST_BYTES + CHUNK_BYTES
@@ -62,12 +75,14 @@ pub record Ran (room : Capacity) (before after out_before out_after : Option (Li
 abbrev pub complaint_line : Trouble → List ℕ
 complaint_line why = complaint why ++ codes "\n"
 
--- what is told of how a run ended: nothing, or the one line, or a first part of it where that cannot be written
-abbrev pub Told : Option (List ℕ) → Option (List ℕ) → Type 0 → Result (Unit {0}) Trouble → Type 0
+-- what is told of how a run ended: nothing, or the one line, or a first part of it where that
+-- cannot be written
+abbrev pub Told : Option (List ℕ) → Option (List ℕ) → Type 0 → Ending → Type 0
 Told before after failed (Ok done) = Keeps before after
-Told before after failed (Err why) = (r : Result (Unit {0}) Trouble) × Delivered before after failed (complaint_line why) r
+Told before after failed (Err why) =
+    (r : Ending) × Delivered before after failed (complaint_line why) r
 
 -- the status that a program ends with
-abbrev pub status_of : Result (Unit {0}) Trouble → ℕ
+abbrev pub status_of : Ending → ℕ
 status_of (Ok done) = 0
 status_of (Err why) = 1

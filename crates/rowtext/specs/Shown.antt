@@ -30,19 +30,27 @@ shown cells sites (Ok cost) = cell_lines cells sites ++ number_line (codes "cost
 shown cells sites (Err refusal) = number_line (codes "refused ") (number_of refusal)
 
 -- the bytes are put behind those before; or there was no room for all of them
-pub record Adds (bytes : List ℕ) (before after : Vec ℕ Global) (r : Result (Unit {0}) AllocError) : Type 0 where
+pub record Adds (bytes : List ℕ) (before after : Vec ℕ Global)
+    (r : Result (Unit {0}) AllocError) : Type 0 where
   pub added : OnOk r (after.items ≡ before.items ++ bytes)
   pub full : OnErr r (vec_capacity before < vec_len before + length bytes)
   pub room : vec_capacity before ≤ vec_capacity after
 
 -- what is said where `set` is lent this buffer: the row's sites and their cost, or the refusal
 abbrev pub said_in : MeasureName → Row → List Cell → List ℕ → List ℕ
-said_in measure row cells buffer = shown cells (set_sites (named_price measure) row cells buffer) (set_answer (named_price measure) row cells buffer)
+said_in measure row cells buffer =
+    shown cells
+    (set_sites (named_price measure) row cells buffer)
+    (set_answer (named_price measure) row cells buffer)
 
 -- what is said of a task: the buffer has a site for each cell
 abbrev pub said : MeasureName → Row → List Cell → List ℕ
 said measure row cells = said_in measure row cells (replicate (length cells) 0)
 
--- these bytes are said of a task with these cells; or a buffer, of this capacity, had no room for the sites or for the bytes
+-- these bytes are said of a task with these cells; or a buffer, of this capacity, had no room for
+-- the sites or for the bytes
 abbrev pub Says : List Cell → List ℕ → ℕ → ℕ → List ℕ → Result (Unit {0}) AllocError → Type 0
-Says cells bytes sites_room said_room after r = MatchResult r (λ _. after ≡ bytes) (λ _. (sites_room < length cells) ⊎ (said_room < length bytes))
+Says cells bytes sites_room said_room after r =
+    MatchResult r
+    (λ _. after ≡ bytes)
+    (λ _. (sites_room < length cells) ⊎ (said_room < length bytes))

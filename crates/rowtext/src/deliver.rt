@@ -27,7 +27,8 @@ fn put_some<W: Sink>(out: &mut W, bytes: &[u8]) -> io::Result<usize>
 
 // Delivers all of the bytes, or a first part of them where it fails.
 pub(crate) fn deliver<W: Sink>(out: &mut W, bytes: &[u8]) -> Result<(), Trouble>
-    ensures { Delivered (W.contents out.old) (W.contents out.new) (W.failed out.new) bytes.now result }
+    ensures { Delivered (W.contents out.old) (W.contents out.new) (W.failed out.new)
+        bytes.now result }
 {
     let mut done = 0;
     while done < bytes.len() {

@@ -1,4 +1,4 @@
-// What a line says behind its first word, word after word.
+//! What a line says behind its first word, word after word.
 ghost use Rattle.std.specs.Prelude.{◌≡◌};
 ghost use Rattle.rowtext.specs.Fields.{Behind, Takes, left, ended};
 ghost use Rattle.rowtext.specs.Forms.{name_of};

@@ -1,4 +1,4 @@
-// What one line says: a measure, a row or a cell.
+//! What one line says: a measure, a row or a cell.
 ghost use Rattle.std.specs.Prelude.{◌≡◌};
 ghost use Rattle.rowtext.specs.Forms.{measure_named as named, measure_of, row_of, cell_of};
 ghost use Rattle.rowtext.specs.Text.{words};

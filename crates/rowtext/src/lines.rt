@@ -1,4 +1,4 @@
-// The lines of a text that count: those that have a word and are no comment.
+//! The lines of a text that count: those that have a word and are no comment.
 ghost use Rattle.std.specs.Prelude.{◌+◌, ◌^◌, ◌<◌, length};
 ghost use Rattle.rowtext.specs.Parts.{parts_left};
 
@@ -14,7 +14,8 @@ pub(crate) struct Entry<'a> {
 }
 
 // The lines that are left of a text, and how many were read.
-// The count is a field and no `enumerate`: `next_number` reads it when the lines are at their end and the iterator yields no more.
+// The count is a field and no `enumerate`: `next_number` reads it when the lines are at their end
+// and the iterator yields no more.
 #[derive(Drop)]
 pub(crate) struct Lines<'a> {
     lines: Parts<'a>,

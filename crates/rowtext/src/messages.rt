@@ -27,7 +27,8 @@ impl Form {
 fn put_usage(text: &mut ArrayString<128>, words: &str, form: Form)
     requires { array_string_len text.old + length words.now ≤ 92 }
     ensures text { text.new.bytes ≡ text.old.bytes ++ (words.now ++ usage form) }
-    ensures short { array_string_len text.new ≤ array_string_len text.old + length words.now + 36 }
+    ensures short { array_string_len text.new
+        ≤ array_string_len text.old + length words.now + 36 }
 {
     text.push_str(words);
     text.push_str(form.usage());

@@ -1,4 +1,4 @@
-// How a word is read as a number.
+//! How a word is read as a number.
 ghost use Rattle.std.specs.Prelude.{◌≡◌, ◌<◌, length};
 ghost use Rattle.std.specs.Str.{all_ascii_digits};
 ghost use Rattle.rowtext.specs.Numbers.{number_of};

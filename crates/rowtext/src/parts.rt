@@ -1,11 +1,11 @@
-// How bytes fall into parts: a text into lines, a line into words.
+//! How bytes fall into parts: a text into lines, a line into words.
 ghost use Rattle.std.specs.Prelude.{◌≡◌};
 ghost use Rattle.std.specs.Iterator.{YieldsFirstRef, item_count};
 ghost use Rattle.std.specs.List.{before_first, after_first};
 ghost use Rattle.rowtext.specs.Parts.{parts_left, words_left};
 ghost use Rattle.rowtext.specs.Text.{among, lines, words};
 
-// What stands before the first mark, and what stands behind it; all and nothing where there is no mark.
+// What stands before the first mark, and what stands behind it; all and nothing if there is none.
 fn cut_at_mark<'a>(bytes: &'a [u8], marks: &[u8]) -> (&'a [u8], &'a [u8])
     ensures before { result.0.now ≡ before_first (among marks.now) bytes.now }
     ensures after { result.1.now ≡ after_first (among marks.now) bytes.now }
@@ -17,8 +17,9 @@ fn cut_at_mark<'a>(bytes: &'a [u8], marks: &[u8]) -> (&'a [u8], &'a [u8])
 }
 
 // The parts of the bytes that are left, each of which ends with one of the marks.
-// Neither `split` nor `split_inclusive`: both take a closure, whose type a field cannot name, so that each user of lines or words would carry a type parameter.
-// And behind a last mark `split` gives one part more, while `split_inclusive` leaves the marks in the parts.
+// Neither `split` nor `split_inclusive`: both take a closure, whose type a field cannot name, so
+// that each user of lines or words would carry a type parameter. And behind a last mark `split`
+// gives one part more, while `split_inclusive` leaves the marks in the parts.
 #[derive(Drop)]
 pub(crate) struct Parts<'a> {
     rest: &'a [u8],

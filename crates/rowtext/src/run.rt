@@ -1,8 +1,9 @@
 //! Whole runs, from bytes to bytes.
-ghost use Rattle.std.specs.Prelude.{◌≡◌, Result};
+ghost use Rattle.std.specs.Prelude.{◌≡◌};
 ghost use Rattle.std.specs.Process.{exit_status};
 ghost use Rattle.rowtext.specs.Rooms.{room_of};
 ghost use Rattle.rowtext.specs.Runs.{Answered, Ran, Told, status_of};
+ghost use Rattle.rowtext.specs.Streams.{Ending};
 
 use crate::answer::answer;
 use crate::deliver::deliver;
@@ -51,7 +52,7 @@ pub fn set_row<R: Source, W: Sink, E: Sink>(
     out: &mut W,
     err: &mut E,
 ) -> ExitCode
-    ensures { (ending : Result (Unit {0}) Trouble)
+    ensures { (ending : Ending)
         × Ran (room_of room.old) (R.remaining input.old) (R.remaining input.new)
         (W.contents out.old) (W.contents out.new) (R.failed input.new) (W.failed out.new) ending
         × Told (E.contents err.old) (E.contents err.new) (E.failed err.new) ending

@@ -1,4 +1,4 @@
-// How the lines of a text are found, one after another.
+//! How the lines of a text are found, one after another.
 ghost use Rattle.std.specs.Prelude.{◌≡◌, ◌+◌};
 ghost use Rattle.std.specs.Iterator.{item_count};
 ghost use Rattle.rowtext.specs.Lines.{counts as does_count, counted, end_of, left, end, Gives};
