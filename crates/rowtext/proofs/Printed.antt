@@ -1,7 +1,7 @@
 -- The lines of cells, one after another.
-use Rattle.std.proofs.Common.{◌≡◌, ℕ, ◌+◌, ◌<◌, ◌≤◌, ◌⊎◌, List, [], ◌∷◌, ◌++◌, length, sym, refl, ap, ◌∙◌, inl, inr, append-nil, append_assoc, arith, length-append}
+use Rattle.std.proofs.Common.{◌≡◌, ℕ, ◌≤◌, ◌⊎◌, List, [], ◌∷◌, ◌++◌, sym, refl, ap, ◌∙◌, inl, inr, append-nil}
 use Rattle.row.specs.declared.Cell.{Cell}
-use Rattle.rowtext.specs.Shown.{cell_line, cell_lines}
+use Rattle.rowtext.specs.Shown.{cell_lines}
 
 no_sites : (cells : List Cell) → cell_lines cells [] ≡ []
 no_sites [] = refl

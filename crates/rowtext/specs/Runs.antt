@@ -7,7 +7,7 @@ use Rattle.rowtext.specs.declared.trouble.Trouble.{Trouble}
 use Rattle.rowtext.specs.declared.trouble.Trouble.TheVariants.{Unreadable as unreadable, TooLong, NoMemory, NotRead, NotWritten}
 use Rattle.rowtext.specs.declared.trouble.Unreadable.{Unreadable}
 use Rattle.rowtext.specs.Messages.{complaint}
-use Rattle.rowtext.specs.Reading.{Given, lines_in, reads_as}
+use Rattle.rowtext.specs.Reading.{lines_in, reads_as}
 use Rattle.rowtext.specs.Rooms.{Capacity}
 use Rattle.rowtext.specs.Shown.{said}
 use Rattle.rowtext.specs.Steps.{then}

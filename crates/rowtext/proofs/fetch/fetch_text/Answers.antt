@@ -1,4 +1,4 @@
-use Rattle.std.proofs.Common.{rules, Err, ap, ◌∙◌, arith}
+use Rattle.std.proofs.Common.{rules, Err, ap, ◌∙◌}
 use Rattle.std.proofs.lemmas.Result.{err_from_is_err_and}
 use Rattle.rowtext.proofs.Copied.{fetch_full}
 use Rattle.rowtext.proofs.fetch.fetch_text.Goals as goal
