@@ -2,17 +2,21 @@
 #![tactic(auto)]
 
 ghost use Rattle.std.specs.Prelude.{◌≡◌, ◌≤◌, length, IfOk};
+ghost use Rattle.lines.specs.Appended.{Appends};
 ghost use Rattle.lines.specs.Fronts.{HasRoom, Puts};
 ghost use Rattle.lines.specs.Texts.{text};
 ghost use Rattle.lines.specs.Writes.{write_answer, write_buffer};
 ghost use Rattle.lines.specs.declared.TheConstants.{LEAST_BUFFER};
 
+mod appending;
 mod front;
 mod short_buffer;
 
+pub use appending::append;
 use front::Front;
 use job::Name;
 pub use short_buffer::ShortBuffer;
+use std::alloc::AllocError;
 
 /// The least length of a line buffer, in bytes: no line is longer.
 pub const LEAST_BUFFER: usize = 320;
@@ -131,5 +135,14 @@ impl<'a> Line<'a> {
         let mut front = Front { buffer, end: 0 };
         self.put(&mut front);
         Ok(front.end)
+    }
+
+    /// Adds the line at the end of a growing buffer. It fails only for want of memory.
+    pub fn append_to(self, out: &mut Vec<u8>) -> Result<(), AllocError>
+        ensures { Appends out.old result (text self.entry) out.new }
+    {
+        let mut buffer = [0; LEAST_BUFFER];
+        let length = self.write(&mut buffer).unwrap();
+        append(out, &buffer[..length])
     }
 }
