@@ -1,3 +1,4 @@
 pub mod Cells
 pub mod Turns
 pub mod Jobs
+pub mod StreamBytes

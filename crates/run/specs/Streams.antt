@@ -1,0 +1,16 @@
+-- What reads and writes do to the bytes that a reader has left and a writer holds, where those are known.
+use Rattle.std.specs.Prelude.{◌≡◌, ℕ, ◌≤◌, List, ◌++◌, length, Option}
+use Rattle.std.specs.Io.KnownBytes.{Appends, Consumes}
+
+-- at most so many bytes were read
+pub record ReadsUpTo (most : ℕ) (old new : Option (List ℕ)) : Type 0 where
+  pub read : List ℕ
+  pub consumed : Consumes old new read
+  pub few : length read ≤ most
+
+-- a first part of some bytes was written: all of them, none, or some
+pub record WritesPart (old new : Option (List ℕ)) (bytes : List ℕ) : Type 0 where
+  pub part : List ℕ
+  pub rest : List ℕ
+  pub appended : Appends old new part
+  pub whole : bytes ≡ part ++ rest
