@@ -9,10 +9,11 @@ use Rattle.row.specs.Records.{row_ahead}
 use Rattle.row.specs.declared.Cell.{Cell}
 use Rattle.row.specs.declared.Row.{Row}
 use Rattle.table.specs.Order.{Ordered}
-use Rattle.floor.specs.Calls.{better, chosen, rise, seated, refused_or, site_then, placed_on, place_answer}
+use Rattle.floor.specs.Calls.{outcome_unless, better, chosen, rise, placing_on, outcome_on, place}
 use Rattle.floor.specs.Formed.{formed}
-use Rattle.floor.specs.Refusals.{has_sites, place_refusal}
+use Rattle.floor.specs.Refusals.{has_sites, cell_refusal}
 use Rattle.floor.specs.Settled.{Least}
+use Rattle.floor.specs.Tables.{Tables}
 use Rattle.floor.specs.declared.Placing.{Placing}
 use Rattle.floor.specs.declared.Refusal.{Refusal}
 use Rattle.floor.specs.declared.Refusal.TheVariants.{NoRoom}
@@ -106,14 +107,22 @@ standing_has (r ∷ rows) row e =
     (λ there. let rest = standing_has rows row there in (suc rest.0, let within = rest.1 in omega arith, rest.2))
     (or_cases (is_row row r) (list_any (is_row row) rows) e)
 
-module _ (f : Price) (rows : List Row) (seats : List Seat) (well : formed rows seats ≡ true) (cell : Cell) where
-  least_row : (row : Row) (site : ℕ) → chosen f seats cell rows ≡ Some row → Least f rows seats cell (record { spot = record { line = row.line; site = site }; rise = rise f seats cell row })
-  least_row row site is =
-      let good = chosen_good f rows seats cell row is in
-      let best = best_of f seats cell rows (ordered_rows rows seats well) row is in
+-- what a granted placing answers is one placing
+pub same_ok : (p q : Placing) → ◌≡◌ {A = Result Placing Refusal} (Ok p) (Ok q) → p ≡ q
+same_ok p q e = cc
+
+-- a refusal is no placing
+pub not_ok : (r : Refusal) (q : Placing) → ◌≡◌ {A = Result Placing Refusal} (Err r) (Ok q) → ⊥
+not_ok r q e = let never : ◌≡◌ {A = ℕ} 0 1 = cc in absurd (omega arith)
+
+module _ (f : Price) (t : Tables) (well : formed t.rows t.seats ≡ true) (cell : Cell) where
+  least_row : (row : Row) → chosen f t.seats cell t.rows ≡ Some row → Least f t cell (placing_on f t.seats cell row)
+  least_row row is =
+      let good = chosen_good f t.rows t.seats cell row is in
+      let best = best_of f t.seats cell t.rows (ordered_rows t.rows t.seats well) row is in
       record {
         row = row;
-        standing = standing_has rows row good.stands;
+        standing = standing_has t.rows row good.stands;
         fits = good.fits;
         line = refl;
         rises = refl;
@@ -121,22 +130,14 @@ module _ (f : Price) (rows : List Row) (seats : List Seat) (well : formed rows s
         first = best.first;
       }
 
-  pub same_ok : (p q : Placing) → ◌≡◌ {A = Result Placing Refusal} (Ok p) (Ok q) → p ≡ q
-  same_ok p q e = cc
-
-  pub not_ok : (r : Refusal) (q : Placing) → ◌≡◌ {A = Result Placing Refusal} (Err r) (Ok q) → ⊥
-  not_ok r q e = let never : ◌≡◌ {A = ℕ} 0 1 = cc in absurd (omega arith)
-
-  on_least : (placing : Placing) (o : Option Row) → chosen f seats cell rows ≡ o → placed_on f seats cell o ≡ Ok placing → Least f rows seats cell placing
+  on_least : (placing : Placing) (o : Option Row) → chosen f t.seats cell t.rows ≡ o → (outcome_on f t cell o).answer ≡ Ok placing → Least f t cell placing
   on_least placing None is e = absurd (not_ok NoRoom placing e)
-  on_least placing (Some row) is e =
-      let site = site_then cell.number (seated f seats cell row) in
-      subst (Least f rows seats cell) (same_ok (record { spot = record { line = row.line; site = site }; rise = rise f seats cell row }) placing e) (least_row row site is)
+  on_least placing (Some row) is e = subst (Least f t cell) (same_ok (placing_on f t.seats cell row) placing e) (least_row row is)
 
-  or_least : (placing : Placing) (o : Option Refusal) → refused_or o (placed_on f seats cell (chosen f seats cell rows)) ≡ Ok placing → Least f rows seats cell placing
-  or_least placing None e = on_least placing (chosen f seats cell rows) refl e
+  or_least : (placing : Placing) (o : Option Refusal) → (outcome_unless o t (outcome_on f t cell (chosen f t.seats cell t.rows))).answer ≡ Ok placing → Least f t cell placing
+  or_least placing None e = on_least placing (chosen f t.seats cell t.rows) refl e
   or_least placing (Some refusal) e = absurd (not_ok refusal placing e)
 
   -- a granted placing went to the row of least rise, and of equal ones to the first
-  pub place_least : (placing : Placing) → place_answer f rows seats cell ≡ Ok placing → Least f rows seats cell placing
-  place_least placing e = or_least placing (place_refusal rows seats cell) e
+  pub place_least : (placing : Placing) → (place f t cell).answer ≡ Ok placing → Least f t cell placing
+  place_least placing e = or_least placing (cell_refusal t.seats cell) e

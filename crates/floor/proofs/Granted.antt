@@ -1,5 +1,5 @@
 -- What `set` gives where it refuses nothing.
-use Rattle.std.proofs.Common.{◌≡◌, ℕ, List, length}
+use Rattle.std.proofs.Common.{◌≡◌, List, length}
 use Rattle.row.specs.Sites.{row_sites}
 use Rattle.row.specs.Stack.{Ready}
 use Rattle.row.specs.declared.Cell.{Cell}

@@ -1,5 +1,5 @@
 -- A floor whose rows are set stays so: with a row more, and with a cell placed.
-use Rattle.std.proofs.Common.{◌≡◌, ℕ, true, false, List, [], get_or, map, Some, None, Option, sym, refl, ap, ◌∙◌, subst, ⊎_elim}
+use Rattle.std.proofs.Common.{◌≡◌, true, false, List, [], get_or, map, Some, None, Ok, Option, sym, refl, ap, ◌∙◌, subst, ⊎_elim}
 use Rattle.std.proofs.ByRecursion.{All-get_or, All-from_get_or, All-weaker}
 use Rattle.std.proofs.lemmas.Bool.{cases_Bool}
 use Rattle.std.specs.List.{AllByRecursion}
@@ -8,23 +8,23 @@ use Rattle.row.specs.Records.{row_ahead}
 use Rattle.row.specs.Sites.{row_sites}
 use Rattle.row.specs.declared.Cell.{Cell}
 use Rattle.row.specs.declared.Row.{Row}
-use Rattle.row.specs.Task.{changed}
 use Rattle.row.proofs.Accepted.{Fitting, ready_fitting}
 use Rattle.row.proofs.Ranges.{RangedRow, ranged_row}
 use Rattle.table.proofs.Inserted.{put_all, inserted_is}
-use Rattle.floor.specs.Calls.{chosen, seated, seated_on, seats_after_place, with_row, rows_after}
+use Rattle.floor.specs.Calls.{outcome_unless, with_row, add_row, seated, chosen, outcome_on, place}
 use Rattle.floor.specs.Formed.{rows_formed, formed}
-use Rattle.floor.specs.Refusals.{has_sites, add_refusal, place_refusal}
+use Rattle.floor.specs.Refusals.{has_sites, add_refusal, cell_refusal}
 use Rattle.floor.specs.Rows.{same_row, share}
 use Rattle.floor.specs.Seats.{on_row, seats_on, cells_on, sites_on, joined, settled}
 use Rattle.floor.specs.Settled.{Settled}
+use Rattle.floor.specs.Tables.{Tables}
 use Rattle.floor.specs.declared.Refusal.{Refusal}
 use Rattle.floor.specs.declared.Seat.{Seat}
 use Rattle.floor.proofs.Defaults.{no_row}
 use Rattle.floor.proofs.Joining.{joined_others, placeable}
 use Rattle.floor.proofs.Kept.{kept_none}
 use Rattle.floor.proofs.Listed.{Standing, formed_listed, standing_at, standing_all, standing_one, standing_passes}
-use Rattle.floor.proofs.Placed.{chosen_good, free_cell}
+use Rattle.floor.proofs.Placed.{chosen_good}
 use Rattle.floor.proofs.Ready.{ready_standing}
 use Rattle.floor.proofs.Resited.{resited_cells_on, resited_sites_on, resited_others}
 use Rattle.floor.proofs.Rowed.{apart_new, ranged_new, shared_same}
@@ -66,45 +66,48 @@ module _ (f : Price) (fair : Fair f) (rows : List Row) (before after : List Seat
       (cases_Bool (same_row r row)))
       set
 
-module _ (f : Price) (fair : Fair f) (rows : List Row) (seats : List Seat) (well : formed rows seats ≡ true) (set : Settled f rows seats) where
-  pub seated_settled : (cell : Cell) → place_refusal rows seats cell ≡ None → (row : Row) → Standing rows row → has_sites seats cell row ≡ true → Settled f rows (seated f seats cell row)
+module _ (f : Price) (fair : Fair f) (t : Tables) (well : formed t.rows t.seats ≡ true) (set : Settled f t.rows t.seats) where
+  pub seated_settled : (cell : Cell) → cell_refusal t.seats cell ≡ None → (row : Row) → Standing t.rows row → has_sites t.seats cell row ≡ true → Settled f t.rows (seated f t.seats cell row)
   seated_settled cell none row stands fits =
-      let can = placeable seats cell (free_cell rows seats cell none) in
-      let own = ready_fitting row (cells_on row (joined row cell seats)) (ready_standing rows seats well cell can row stands fits) in
-      row_settled f fair rows seats (joined row cell seats) row own (joined_others row cell seats) (formed_listed rows seats well).well stands set
+      let can = placeable t.seats cell none in
+      let own = ready_fitting row (cells_on row (joined row cell t.seats)) (ready_standing t.rows t.seats well cell can row stands fits) in
+      row_settled f fair t.rows t.seats (joined row cell t.seats) row own (joined_others row cell t.seats) (formed_listed t.rows t.seats well).well stands set
 
-  on_settled : (cell : Cell) → place_refusal rows seats cell ≡ None → (o : Option Row) → chosen f seats cell rows ≡ o → Settled f rows (seated_on f seats cell o)
+  on_settled : (cell : Cell) → cell_refusal t.seats cell ≡ None → (o : Option Row) → chosen f t.seats cell t.rows ≡ o → let after = (outcome_on f t cell o).tables in Settled f after.rows after.seats
   on_settled cell none None is = set
-  on_settled cell none (Some row) is = let good = chosen_good f rows seats cell row is in seated_settled cell none row good.stands good.fits
+  on_settled cell none (Some row) is = let good = chosen_good f t.rows t.seats cell row is in seated_settled cell none row good.stands good.fits
 
-  after_settled : (cell : Cell) (o : Option Refusal) → place_refusal rows seats cell ≡ o → Settled f rows (changed o (seated_on f seats cell (chosen f seats cell rows)) seats)
-  after_settled cell None is = on_settled cell is (chosen f seats cell rows) refl
+  after_settled : (cell : Cell) (o : Option Refusal) → cell_refusal t.seats cell ≡ o → let after = (outcome_unless o t (outcome_on f t cell (chosen f t.seats cell t.rows))).tables in Settled f after.rows after.seats
+  after_settled cell None is = on_settled cell is (chosen f t.seats cell t.rows) refl
   after_settled cell (Some refusal) is = set
 
   -- a floor that is set stays set when a cell is placed
-  pub place_settled : (cell : Cell) → Settled f rows (seats_after_place f rows seats cell)
-  place_settled cell = after_settled cell (place_refusal rows seats cell) refl
+  pub place_settled : (cell : Cell) → let after = (place f t cell).tables in Settled f after.rows after.seats
+  place_settled cell = after_settled cell (cell_refusal t.seats cell) refl
 
-module _ (f : Price) (rows : List Row) (seats : List Seat) (well : formed rows seats ≡ true) (set : Settled f rows seats) where
+module _ (f : Price) (t : Tables) (well : formed t.rows t.seats ≡ true) (set : Settled f t.rows t.seats) (row : Row) where
   -- no seat is on a new row
-  none_on : (row : Row) → add_refusal rows row ≡ None → seats_on row seats ≡ []
-  none_on row none =
-      let listed = formed_listed rows seats well in
-      let ranged : (r : Row) → Standing rows r → RangedRow r = λ r there. ranged_row r (standing_passes rows listed.well r there) in
-      kept_none (on_row row) seats
-      (All-weaker (λ s. Standing rows s.row) (λ s. on_row row s ≡ false)
-      (λ s there. shared_same row s.row (ranged_new rows row none) (ranged s.row there) (standing_all (λ r. share row r ≡ false) rows s.row (apart_new rows row none) there))
-      seats listed.stand)
+  none_on : add_refusal t.rows row ≡ None → seats_on row t.seats ≡ []
+  none_on none =
+      let listed = formed_listed t.rows t.seats well in
+      let ranged : (r : Row) → Standing t.rows r → RangedRow r = λ r there. ranged_row r (standing_passes t.rows listed.well r there) in
+      kept_none (on_row row) t.seats
+      (All-weaker (λ s. Standing t.rows s.row) (λ s. on_row row s ≡ false)
+      (λ s there. shared_same row s.row (ranged_new t.rows row none) (ranged s.row there) (standing_all (λ r. share row r ≡ false) t.rows s.row (apart_new t.rows row none) there))
+      t.seats listed.stand)
 
-  new_set : (row : Row) → add_refusal rows row ≡ None → IsSet f seats row
-  new_set row none =
-      let empty = none_on row none in
+  new_set : add_refusal t.rows row ≡ None → IsSet f t.seats row
+  new_set none =
+      let empty = none_on none in
       ap (map (λ s. s.site)) empty ∙ sym (ap (λ l. row_sites f row (map (λ s. s.cell) l)) empty)
 
-  rows_settled : (row : Row) (o : Option Refusal) → add_refusal rows row ≡ o → Settled f (changed o (with_row rows row) rows) seats
-  rows_settled row None is = subst (λ rs. Settled f rs seats) (sym (inserted_is row_ahead row rows)) (put_all row_ahead row (IsSet f seats) rows (new_set row is) set)
-  rows_settled row (Some refusal) is = set
-
   -- and when a row is added
-  pub add_settled : (row : Row) → Settled f (rows_after rows row) seats
-  add_settled row = rows_settled row (add_refusal rows row) refl
+  pub with_settled : add_refusal t.rows row ≡ None → Settled f (with_row t.rows row) t.seats
+  with_settled none = subst (λ rs. Settled f rs t.seats) (sym (inserted_is row_ahead row t.rows)) (put_all row_ahead row (IsSet f t.seats) t.rows (new_set none) set)
+
+  or_settled : (o : Option Refusal) → add_refusal t.rows row ≡ o → let after = (outcome_unless {X = Unit {0}} o t (record { answer = Ok tt; tables = record { rows = with_row t.rows row; seats = t.seats } })).tables in Settled f after.rows after.seats
+  or_settled None is = with_settled is
+  or_settled (Some refusal) is = set
+
+  pub add_settled : let after = (add_row t row).tables in Settled f after.rows after.seats
+  add_settled = or_settled (add_refusal t.rows row) refl

@@ -5,15 +5,18 @@ use Rattle.std.proofs.lemmas.Bool.{and_parts, and_from, both_ways, eqb-true, eq-
 use Rattle.std.proofs.lemmas.List.Sums.{length-filter, count_by-le-length}
 use Rattle.std.proofs.lemmas.Option.{same_Some}
 use Rattle.std.specs.List.{AllByRecursion, list_all}
+use Rattle.std.specs.Option.{option_map, ok_or}
 use Rattle.measure.specs.Costs.{Fair, Price}
 use Rattle.row.specs.Stack.{Ready}
 use Rattle.row.specs.declared.Row.{Row}
 use Rattle.table.proofs.Inserted.{Pairs}
-use Rattle.floor.specs.Calls.{seat_of, without, seats_less, seats_after_withdraw}
+use Rattle.floor.specs.Calls.{seat_of, spot, where_is, without, outcome_without, withdraw}
 use Rattle.floor.specs.Formed.{every_pair, rows_formed, seat_formed, seats_apart, formed}
 use Rattle.floor.specs.Rows.{same_row}
 use Rattle.floor.specs.Seats.{on_row, seats_on, cells_on, settled}
 use Rattle.floor.specs.Settled.{Settled}
+use Rattle.floor.specs.Tables.{Tables}
+use Rattle.floor.specs.declared.Refusal.TheVariants.{NotStanding}
 use Rattle.floor.specs.declared.Seat.{Seat}
 use Rattle.floor.proofs.Joining.{standing_fitting, set_formed, row_ready}
 use Rattle.floor.proofs.Keeping.{row_settled}
@@ -86,38 +89,48 @@ module _ (rows : List Row) (seats : List Seat) (well : formed rows seats ≡ tru
       seats (found_only number seats s (formed_listed rows seats well).differ found))
 
 -- what is known of a seat that is found by its number
-pub record Found (f : Price) (seats : List Seat) (number : ℕ) (s : Seat) : Type 0 where
-  pub ready : Ready s.row (cells_on s.row (without s.cell.number seats))
-  pub after : settled f s.row (without s.cell.number seats) ≡ seats_after_withdraw f seats number
+pub record Found (f : Price) (t : Tables) (number : ℕ) (s : Seat) : Type 0 where
+  pub ready : Ready s.row (cells_on s.row (without s.cell.number t.seats))
+  pub is : outcome_without f t number (Some s) ≡ withdraw f t number
+  pub after : settled f s.row (without s.cell.number t.seats) ≡ settled f s.row (without number t.seats)
 
 -- from what the program looked up
-pub found_known : (f : Price) (rows : List Row) (seats : List Seat) (number : ℕ) (s : Seat) {looked : Option Seat} {count : ℕ} → formed rows seats ≡ true → count ≤ 1024 → count ≡ length seats → looked ≡ seat_of number seats → looked ≡ Some s → Found f seats number s
-found_known f rows seats number s well few counted finds some =
+pub found_known : (f : Price) (t : Tables) (number : ℕ) (s : Seat) {looked : Option Seat} {count : ℕ} → formed t.rows t.seats ≡ true → count ≤ 1024 → count ≡ length t.seats → looked ≡ seat_of number t.seats → looked ≡ Some s → Found f t number s
+found_known f t number s well few counted finds some =
     let found = sym finds ∙ some in
-    let number_is = found_number number seats s found in
+    let number_is = found_number number t.seats s found in
     record {
-      ready = without_ready rows seats well s.cell.number s (subst (λ n. seat_of n seats ≡ Some s) (sym number_is) found) (omega arith);
-      after = ap (λ n. settled f s.row (without n seats)) number_is ∙ sym (ap (seats_less f seats number) found);
+      ready = without_ready t.rows t.seats well s.cell.number s (subst (λ n. seat_of n t.seats ≡ Some s) (sym number_is) found) (omega arith);
+      is = ap (outcome_without f t number) (sym found);
+      after = ap (λ n. settled f s.row (without n t.seats)) number_is;
     }
 
-module _ (f : Price) (fair : Fair f) (rows : List Row) (seats : List Seat) (well : formed rows seats ≡ true) where
+module _ (f : Price) (fair : Fair f) (t : Tables) (well : formed t.rows t.seats ≡ true) (number : ℕ) where
   -- by what is found of a number: a floor stays well formed once that seat is taken out and its row set ..
-  less_formed : (number : ℕ) (o : Option Seat) → seat_of number seats ≡ o → formed rows (seats_less f seats number o) ≡ true
-  less_formed number None is = well
-  less_formed number (Some s) is = set_formed f fair rows (without number seats) s.row (without_formed rows seats well number s is) (found_stands rows seats well number s is)
+  less_formed : (o : Option Seat) → seat_of number t.seats ≡ o → let after = (outcome_without f t number o).tables in formed after.rows after.seats ≡ true
+  less_formed None is = well
+  less_formed (Some s) is = set_formed f fair t.rows (without number t.seats) s.row (without_formed t.rows t.seats well number s is) (found_stands t.rows t.seats well number s is)
 
   -- .. and one whose rows are set stays so
-  less_settled : Settled f rows seats → (number : ℕ) (o : Option Seat) → seat_of number seats ≡ o → Settled f rows (seats_less f seats number o)
-  less_settled set number None is = set
-  less_settled set number (Some s) is =
-      let stands = found_stands rows seats well number s is in
-      row_settled f fair rows seats (without number seats) s.row (standing_fitting rows (without number seats) s.row (without_formed rows seats well number s is) stands) (without_others rows seats well number s is)
-      (formed_listed rows seats well).well stands set
+  less_settled : Settled f t.rows t.seats → (o : Option Seat) → seat_of number t.seats ≡ o → let after = (outcome_without f t number o).tables in Settled f after.rows after.seats
+  less_settled set None is = set
+  less_settled set (Some s) is =
+      let stands = found_stands t.rows t.seats well number s is in
+      row_settled f fair t.rows t.seats (without number t.seats) s.row (standing_fitting t.rows (without number t.seats) s.row (without_formed t.rows t.seats well number s is) stands) (without_others t.rows t.seats well number s is)
+      (formed_listed t.rows t.seats well).well stands set
 
--- a floor stays well formed when a cell is withdrawn
-pub withdraw_formed : (f : Price) → Fair f → (rows : List Row) (seats : List Seat) → formed rows seats ≡ true → (number : ℕ) → formed rows (seats_after_withdraw f seats number) ≡ true
-withdraw_formed f fair rows seats well number = less_formed f fair rows seats well number (seat_of number seats) refl
+  -- a floor stays well formed when a cell is withdrawn
+  pub withdraw_formed : let after = (withdraw f t number).tables in formed after.rows after.seats ≡ true
+  withdraw_formed = less_formed (seat_of number t.seats) refl
 
--- and one whose rows are set stays so
-pub withdraw_settled : (f : Price) → Fair f → (rows : List Row) (seats : List Seat) → formed rows seats ≡ true → Settled f rows seats → (number : ℕ) → Settled f rows (seats_after_withdraw f seats number)
-withdraw_settled f fair rows seats well set number = less_settled f fair rows seats well set number (seat_of number seats) refl
+  -- and one whose rows are set stays so
+  pub withdraw_settled : Settled f t.rows t.seats → let after = (withdraw f t number).tables in Settled f after.rows after.seats
+  withdraw_settled set = less_settled set (seat_of number t.seats) refl
+
+-- a withdrawal answers where the cell stood
+pub withdraw_answer : (f : Price) (t : Tables) (number : ℕ) → (withdraw f t number).answer ≡ where_is t number
+withdraw_answer f t number = by_found (seat_of number t.seats)
+  where
+    by_found : (o : Option Seat) → (outcome_without f t number o).answer ≡ ok_or (option_map spot o) NotStanding
+    by_found None = refl
+    by_found (Some s) = refl

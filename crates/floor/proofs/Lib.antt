@@ -16,6 +16,7 @@ pub mod Moved
 pub mod Orders
 pub mod Placed
 pub mod Ready
+pub mod Refused
 pub mod Resited
 pub mod Risen
 pub mod Rising

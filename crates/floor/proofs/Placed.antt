@@ -1,24 +1,25 @@
 -- What is known once a row is chosen for a cell.
 use Rattle.std.proofs.Common.{◌≡◌, ℕ, Bool, true, false, cond, ◌||◌, eqb, leb, List, [], ◌∷◌, Some, None, Ok, Option, IsSome, sym, refl, ap, ◌∙◌, subst, arith}
-use Rattle.std.proofs.lemmas.Bool.{or_left, or_right, cond_both, cond-true, cond-false, eq-eqb, both_ways}
+use Rattle.std.proofs.lemmas.Bool.{or_left, or_right, cond_both, cond-false, eq-eqb, both_ways}
 use Rattle.std.proofs.ByRecursion.{All-weaker}
 use Rattle.std.proofs.lemmas.Option.{same_Some}
 use Rattle.std.specs.List.{AllByRecursion, list_any}
 use Rattle.std.specs.Option.{option_map, ok_or}
 use Rattle.measure.specs.Costs.{Fair, Price}
-use Rattle.row.specs.Records.{check, then}
+use Rattle.row.specs.Records.{check}
 use Rattle.row.specs.Sites.{row_sites}
 use Rattle.row.specs.Stack.{Ready}
-use Rattle.row.specs.Task.{changed}
 use Rattle.row.proofs.Accepted.{both}
 use Rattle.row.specs.declared.Cell.{Cell}
 use Rattle.row.specs.declared.Row.{Row}
 use Rattle.table.proofs.Inserted.{put_in, put_all, inserted_is}
-use Rattle.floor.specs.Calls.{better, chosen, rise, seated, seat_of, site_then, refused_or, placed_on, place_answer, seated_on, seats_after_place}
+use Rattle.floor.specs.Calls.{outcome_unless, better, chosen, rise, seated, seat_of, site_then, outcome_on, place}
 use Rattle.floor.specs.Choices.{choice_of, placing_of}
 use Rattle.floor.specs.Formed.{formed}
 use Rattle.floor.specs.Refusals.{has_sites, stands, cell_refusal, place_refusal}
 use Rattle.floor.specs.Seats.{seat_ahead, cells_on, new_seat, joined, resited}
+use Rattle.floor.specs.Tables.{Tables, Outcome}
+use Rattle.floor.specs.declared.Placing.{Placing}
 use Rattle.floor.specs.declared.Refusal.{Refusal}
 use Rattle.floor.specs.declared.Refusal.TheVariants.{NoRoom}
 use Rattle.floor.specs.declared.Seat.{Seat}
@@ -67,14 +68,6 @@ chosen_any f [] seats cell row e = let never : ◌≡◌ {A = ℕ} 0 1 = cc in a
 chosen_any f (first ∷ rows) seats cell row e =
     any_by seats cell first rows (has_sites seats cell first) refl
     (λ no. chosen_any f rows seats cell row (sym (cond-false (has_sites seats cell first) (better (rise f seats cell) first (chosen f seats cell rows)) (chosen f seats cell rows) no) ∙ e))
-
--- so the check of the rows refuses nothing where the others refuse nothing
-pub not_refused : (rows : List Row) (seats : List Seat) (cell : Cell) → cell_refusal seats cell ≡ None → list_any (has_sites seats cell) rows ≡ true → place_refusal rows seats cell ≡ None
-not_refused rows seats cell none sites = refuses (cell_refusal seats cell) (list_any (has_sites seats cell) rows) none sites
-  where
-    refuses : (others : Option Refusal) (some : Bool) → others ≡ None → some ≡ true → then others (check some NoRoom None) ≡ None
-    refuses None some e sites = cond-true some None (Some NoRoom) sites
-    refuses (Some refusal) some e sites = e
 
 -- and where nothing is refused, the checks that do not look at the rows refuse nothing
 pub free_cell : (rows : List Row) (seats : List Seat) (cell : Cell) → place_refusal rows seats cell ≡ None → cell_refusal seats cell ≡ None
@@ -128,7 +121,7 @@ pub record Chose (f : Price) (rows : List Row) (seats : List Seat) (cell : Cell)
   pub rises : choice.rise ≡ rise f seats cell choice.row
   pub site : choice.site ≡ site_then cell.number (seated f seats cell choice.row)
   pub fresh : stands cell.number seats ≡ false
-  pub granted : place_refusal rows seats cell ≡ None
+  pub free : cell_refusal seats cell ≡ None
   pub ready : Ready choice.row (cells_on choice.row (joined choice.row cell seats))
   pub well : formed rows (seated f seats cell choice.row) ≡ true
 
@@ -152,18 +145,14 @@ chose {f} fair rows seats cell {choice} {given} well free taken told = by_row (c
           rises = ap (λ c. c.rise) same ∙ ap (rise f seats cell) (sym row_is);
           site = ap (λ c. c.site) same ∙ ap (λ r. site_then cell.number (seated f seats cell r)) (sym row_is);
           fresh = can.fresh;
-          granted = not_refused rows seats cell none (chosen_any f rows seats cell choice.row chosen_is);
+          free = none;
           ready = ready_standing rows seats well cell can choice.row good.stands good.fits;
           well = seated_formed f fair rows seats cell choice.row well can good.stands good.fits;
         }
 
--- what placing answers then
-pub placing_is : {f : Price} (rows : List Row) (seats : List Seat) (cell : Cell) (choice : Choice) → Chose f rows seats cell choice → Ok (placing_of choice) ≡ place_answer f rows seats cell
-placing_is {f} rows seats cell choice known =
-    (λ i. Ok (record { spot = record { line = choice.row.line; site = known.site i }; rise = known.rises i }))
-    ∙ sym (ap (λ o. refused_or o (placed_on f seats cell (chosen f seats cell rows))) known.granted ∙ ap (placed_on f seats cell) known.is)
-
--- and the seats then
-pub seats_then : {f : Price} (rows : List Row) (seats : List Seat) (cell : Cell) (choice : Choice) → Chose f rows seats cell choice → seated f seats cell choice.row ≡ seats_after_place f rows seats cell
-seats_then {f} rows seats cell choice known =
-    sym (ap (λ o. changed o (seated_on f seats cell (chosen f seats cell rows)) seats) known.granted ∙ ap (seated_on f seats cell) known.is)
+-- what placing comes to then
+pub placing_is : {f : Price} (t : Tables) (cell : Cell) (choice : Choice) → Chose f t.rows t.seats cell choice
+    → ◌≡◌ {A = Outcome Placing} (record { answer = Ok (placing_of choice); tables = record { rows = t.rows; seats = seated f t.seats cell choice.row } }) (place f t cell)
+placing_is {f} t cell choice known =
+    (λ i. record { answer = Ok (record { spot = record { line = choice.row.line; site = known.site i }; rise = known.rises i }); tables = record { rows = t.rows; seats = seated f t.seats cell choice.row } })
+    ∙ sym (ap (λ o. outcome_unless o t (outcome_on f t cell (chosen f t.seats cell t.rows))) known.free ∙ ap (outcome_on f t cell) known.is)

@@ -1,6 +1,6 @@
 -- Tests over lists, and what they say.
 use Rattle.std.proofs.Common.{◌≡◌, ℕ, Bool, true, false, cond, not, ◌||◌, ◌⊎◌, List, [], ◌∷◌, is_some, Some, None, Option, refl, ap, inl, inr, arith}
-use Rattle.std.proofs.lemmas.Bool.{and_parts, and_from, or_parts, or_left, or_right, or_cases, not-true}
+use Rattle.std.proofs.lemmas.Bool.{and_parts, and_from, or_parts, or_from, or_left, or_right, or_cases, not-true}
 use Rattle.std.specs.List.{AllByRecursion, list_all, list_any}
 use Rattle.table.specs.Order.{Ordered}
 use Rattle.table.proofs.Inserted.{Pairs, put_in}
@@ -45,6 +45,11 @@ none_any test [] e = tt
 none_any test (x ∷ xs) e =
     let parts = or_parts (test x) (list_any test xs) (not-true (test x || list_any test xs) e) in
     (parts.0, none_any test xs (ap not parts.1))
+
+-- and the other way
+pub any_none : {X : Type 0} (test : X → Bool) (xs : List X) → AllByRecursion (λ x. test x ≡ false) xs → list_any test xs ≡ false
+any_none test [] h = refl
+any_none test (x ∷ xs) h = or_from (test x) (list_any test xs) h.0 (any_none test xs h.1)
 
 -- what one of a list passes, one passes with a key more
 any_by : {X : Type 0} (ahead : X → X → Bool) (k : X) (test : X → Bool) (x : X) (xs : List X) (b : Bool) → (test x ≡ true) ⊎ (list_any test xs ≡ true) → (list_any test xs ≡ true → list_any test (put_in ahead k xs) ≡ true) → list_any test (cond b (x ∷ put_in ahead k xs) (k ∷ x ∷ xs)) ≡ true

@@ -1,9 +1,5 @@
 -- A cell tried on a row, and a chosen row with its rise and the cell's site there.
---   trial_on          what a row costs once it is set with a cell more, and the cell's site then
---   choice_of         a row, its rise for a cell, and the cell's site once the row is set with it
---   choice_on         the same, where the row has sites for the cell
---   placing_of        what placing a cell answers, by its choice
-use Rattle.std.specs.Prelude.{ℕ, cond, List, Some, None, Option}
+use Rattle.std.specs.Prelude.{cond, List, Some, None, Option}
 use Rattle.measure.specs.Costs.{Price}
 use Rattle.row.specs.declared.Cell.{Cell}
 use Rattle.row.specs.declared.Row.{Row}

@@ -8,4 +8,5 @@ pub mod Kept
 pub mod Settled
 pub mod Spans
 pub mod State
+pub mod Tables
 pub mod Walks

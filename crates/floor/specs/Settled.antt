@@ -1,8 +1,5 @@
 -- A floor whose rows are set, and the row that a placed cell goes to.
---   Settled      every row's sites are those that `set` gives its cells
---   CostsMore    a floor costs the rise of a placing more than before
---   Least        a placing went to a row that has sites, no row with sites rises less, and one that is ahead in row order rises more
-use Rattle.std.specs.Prelude.{◌≡◌, ℕ, ◌+◌, ◌<◌, ◌≤◌, true, List}
+use Rattle.std.specs.Prelude.{◌≡◌, ◌+◌, ◌<◌, ◌≤◌, true, List}
 use Rattle.std.specs.List.{ContainsAt as Has, AllByRecursion}
 use Rattle.measure.specs.Costs.{Price}
 use Rattle.row.specs.Records.{row_ahead}
@@ -12,6 +9,7 @@ use Rattle.row.specs.declared.Row.{Row}
 use Rattle.floor.specs.Calls.{rise}
 use Rattle.floor.specs.Refusals.{has_sites}
 use Rattle.floor.specs.Seats.{cells_on, sites_on, floor_cost}
+use Rattle.floor.specs.Tables.{Tables}
 use Rattle.floor.specs.declared.Placing.{Placing}
 use Rattle.floor.specs.declared.Seat.{Seat}
 
@@ -20,15 +18,23 @@ abbrev pub Settled : Price → List Row → List Seat → Type 0
 Settled price rows seats = AllByRecursion (λ row. sites_on row seats ≡ row_sites price row (cells_on row seats)) rows
 
 -- where a placing went, and that no other row would have been better
-pub record Least (price : Price) (rows : List Row) (seats : List Seat) (cell : Cell) (placing : Placing) : Type 0 where
+pub record Least (price : Price) (t : Tables) (cell : Cell) (placing : Placing) : Type 0 where
   pub row : Row
-  pub standing : Has rows row
-  pub fits : has_sites seats cell row ≡ true
+  pub standing : Has t.rows row
+  pub fits : has_sites t.seats cell row ≡ true
   pub line : placing.spot.line ≡ row.line
-  pub rises : placing.rise ≡ rise price seats cell row
-  pub least : AllByRecursion (λ other. has_sites seats cell other ≡ true → placing.rise ≤ rise price seats cell other) rows
-  pub first : AllByRecursion (λ other. has_sites seats cell other ≡ true → row_ahead other row ≡ true → placing.rise < rise price seats cell other) rows
+  pub rises : placing.rise ≡ rise price t.seats cell row
+  pub least :
+      AllByRecursion
+      (λ other. has_sites t.seats cell other ≡ true → placing.rise ≤ rise price t.seats cell other)
+      t.rows
+  pub first :
+      AllByRecursion
+      (λ other. has_sites t.seats cell other ≡ true → row_ahead other row ≡ true
+      → placing.rise < rise price t.seats cell other)
+      t.rows
 
--- a floor with these seats costs the rise more than with those before
-abbrev pub CostsMore : Price → List Seat → List Seat → Placing → Type 0
-CostsMore price before after placing = floor_cost price after ≡ floor_cost price before + placing.rise
+-- with these tables a floor costs the rise more than with those before
+abbrev pub CostsMore : Price → Tables → Tables → Placing → Type 0
+CostsMore price before after placing =
+    floor_cost price after.seats ≡ floor_cost price before.seats + placing.rise

@@ -2,10 +2,11 @@ pub mod ByRows
 pub mod Decided
 pub mod Held
 pub mod Perms
+pub mod Permuted
 pub mod Seated
 pub mod Steps
 pub mod Tables
-pub mod Lives
+pub mod Lawful
 pub mod Worked
 pub mod Grants
 pub mod Unique

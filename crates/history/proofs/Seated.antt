@@ -1,7 +1,7 @@
 -- The tables of a well-formed floor in the words of standing cells: what where_is answers, that its answers are a setting, and what the cells of one row are.
-use Rattle.std.proofs.Common.{◌≡◌, ℕ, ◌+◌, ◌≤◌, true, false, not, ◌&&◌, eqb, List, [], ◌∷◌, map, length, Some, None, Ok, Err, sym, refl, ap, ◌∙◌, subst, ⊎_elim, arith}
+use Rattle.std.proofs.Common.{◌≡◌, ℕ, ◌+◌, ◌≤◌, true, false, not, ◌&&◌, eqb, ltb, List, [], ◌∷◌, map, length, Some, None, Ok, Err, sym, refl, ap, ◌∙◌, subst, ⊎_elim, arith}
 use Rattle.std.proofs.ByRecursion.{All-weaker, All-map, all_kept_by, kept_by_passes}
-use Rattle.std.proofs.lemmas.Bool.{cond-true, cond-false, eq-eqb, and_parts, or_cases}
+use Rattle.std.proofs.lemmas.Bool.{cond-true, cond-false, eq-eqb, and_parts, or_cases, or_left, or_right, and_from, lt-ltb}
 use Rattle.std.proofs.lemmas.List.{length-map}
 use Rattle.std.specs.List.{AllByRecursion}
 use Rattle.std.specs.Option.{option_map, ok_or}
@@ -13,10 +13,12 @@ use Rattle.row.specs.declared.Cell.{Cell}
 use Rattle.row.specs.declared.Row.{Row}
 use Rattle.row.proofs.Accepted.{Accepted, ready_known}
 use Rattle.row.proofs.Subject.{wide, clear_after, rising_after}
-use Rattle.floor.specs.Calls.{seat_of, spot, where_answer}
+use Rattle.floor.specs.Calls.{seat_of, spot, where_is}
 use Rattle.floor.specs.Formed.{formed}
 use Rattle.floor.specs.Refusals.{stands_by}
 use Rattle.floor.specs.Seats.{on_row, seat_ahead, seats_on, cells_on}
+use Rattle.floor.specs.Rows.{same_row}
+use Rattle.floor.specs.Tables.{Tables}
 use Rattle.floor.specs.declared.Refusal.TheVariants.{NotStanding}
 use Rattle.floor.specs.declared.Seat.{Seat}
 use Rattle.floor.proofs.Joining.{row_ready}
@@ -24,9 +26,11 @@ use Rattle.floor.proofs.Kept.{all_with, pairs_with, pairs_both, pairs_kept, kept
 use Rattle.floor.proofs.Listed.{Standing, Differ, Listed, Inside, Sited as SitedOn, Clear, formed_listed, formed_sited, each_own, pairs_own}
 use Rattle.floor.proofs.Orders.{ahead_not_same, same_trans, same_sym}
 use Rattle.floor.proofs.Resited.{own_row}
+use Rattle.floor.proofs.Rowed.{ordered_rows}
 use Rattle.floor.proofs.Tests.{none_any, ordered_pairs}
 use Rattle.history.specs.Histories.{cell_of, row_of}
 use Rattle.history.specs.Settings.{site_in, site_answered, placed, OnOneRow, Setting}
+use Rattle.history.specs.Lawful.{stands_ahead}
 use Rattle.history.proofs.Held.{standing_of}
 
 -- what holds of all of a mapped list holds of all of the list
@@ -65,33 +69,33 @@ found_none number [] none = refl
 found_none number (s ∷ seats) none = cond-false (eqb s.cell.number number) (Some s) (seat_of number seats) none.0 ∙ found_none number seats none.1
 
 -- the number of each seat finds it
-pub seats_found : (rows : List Row) (seats : List Seat) → formed rows seats ≡ true → AllByRecursion (λ s. seat_of s.cell.number seats ≡ Some s) seats
-seats_found rows seats well = found_each seats (formed_listed rows seats well).differ
+pub seats_found : (t : Tables) → formed t.rows t.seats ≡ true → AllByRecursion (λ s. seat_of s.cell.number t.seats ≡ Some s) t.seats
+seats_found t well = found_each t.seats (formed_listed t.rows t.seats well).differ
 
 -- so where_is answers each number with the place of its seat
-answers_are : (rows : List Row) (seats : List Seat) → formed rows seats ≡ true → AllByRecursion (λ s. where_answer seats s.cell.number ≡ Ok (spot s)) seats
-answers_are rows seats well =
-    All-weaker (λ s. seat_of s.cell.number seats ≡ Some s) (λ s. where_answer seats s.cell.number ≡ Ok (spot s)) (λ s found. ap (λ o. ok_or (option_map spot o) NotStanding) found) seats
-    (seats_found rows seats well)
+answers_are : (t : Tables) → formed t.rows t.seats ≡ true → AllByRecursion (λ s. where_is t s.cell.number ≡ Ok (spot s)) t.seats
+answers_are t well =
+    All-weaker (λ s. seat_of s.cell.number t.seats ≡ Some s) (λ s. where_is t s.cell.number ≡ Ok (spot s)) (λ s found. ap (λ o. ok_or (option_map spot o) NotStanding) found) t.seats
+    (seats_found t well)
 
 -- the site that is answered for a number is that of its seat
-pub sites_are : (rows : List Row) (seats : List Seat) → formed rows seats ≡ true → AllByRecursion (λ s. site_in (where_answer seats) s.cell.number ≡ s.site) seats
-sites_are rows seats well =
-    All-weaker (λ s. where_answer seats s.cell.number ≡ Ok (spot s)) (λ s. site_in (where_answer seats) s.cell.number ≡ s.site) (λ s answer. ap site_answered answer) seats
-    (answers_are rows seats well)
+pub sites_are : (t : Tables) → formed t.rows t.seats ≡ true → AllByRecursion (λ s. site_in (where_is t) s.cell.number ≡ s.site) t.seats
+sites_are t well =
+    All-weaker (λ s. where_is t s.cell.number ≡ Ok (spot s)) (λ s. site_in (where_is t) s.cell.number ≡ s.site) (λ s answer. ap site_answered answer) t.seats
+    (answers_are t well)
 
 -- where_is answers each standing cell's number with its row's line and the site that it answers
-pub tables_found : (rows : List Row) (seats : List Seat) → formed rows seats ≡ true → AllByRecursion (λ k. where_answer seats k.cell.number ≡ Ok (record { line = k.row.line; site = site_in (where_answer seats) k.cell.number })) (map standing_of seats)
-tables_found rows seats well =
-    All-map (λ k. where_answer seats k.cell.number ≡ Ok (record { line = k.row.line; site = site_in (where_answer seats) k.cell.number })) standing_of seats
-    (All-weaker (λ s. where_answer seats s.cell.number ≡ Ok (spot s)) (λ s. where_answer seats s.cell.number ≡ Ok (record { line = s.row.line; site = site_in (where_answer seats) s.cell.number }))
+pub tables_found : (t : Tables) → formed t.rows t.seats ≡ true → AllByRecursion (λ k. where_is t k.cell.number ≡ Ok (record { line = k.row.line; site = site_in (where_is t) k.cell.number })) (map standing_of t.seats)
+tables_found t well =
+    All-map (λ k. where_is t k.cell.number ≡ Ok (record { line = k.row.line; site = site_in (where_is t) k.cell.number })) standing_of t.seats
+    (All-weaker (λ s. where_is t s.cell.number ≡ Ok (spot s)) (λ s. where_is t s.cell.number ≡ Ok (record { line = s.row.line; site = site_in (where_is t) s.cell.number }))
     (λ s answer. answer ∙ ap (λ x. Ok (record { line = s.row.line; site = x })) (sym (ap site_answered answer)))
-    seats (answers_are rows seats well))
+    t.seats (answers_are t well))
 
 -- and every other number with the answer that it does not stand
-pub tables_absent : (seats : List Seat) (number : ℕ) → stands_by cell_of row_of number (map standing_of seats) ≡ false → where_answer seats number ≡ Err NotStanding
-tables_absent seats number absent =
-    ap (λ o. ok_or (option_map spot o) NotStanding) (found_none number seats (none_any (λ k. eqb k.cell.number number) (map standing_of seats) (ap not absent)))
+pub tables_absent : (t : Tables) (number : ℕ) → stands_by cell_of row_of number (map standing_of t.seats) ≡ false → where_is t number ≡ Err NotStanding
+tables_absent t number absent =
+    ap (λ o. ok_or (option_map spot o) NotStanding) (found_none number t.seats (none_any (λ k. eqb k.cell.number number) (map standing_of t.seats) (ap not absent)))
 
 -- of two seats on one row, the one that is ahead is wanted before the other
 wanted_before : (s t : Seat) → seat_ahead s t ≡ true → on_row t.row s ≡ true → before s.cell t.cell ≡ true
@@ -134,16 +138,44 @@ sited_setting at seats sited inside apart =
           (λ s t own two on. rising_after (p s) (p t) own.0.wide (starts_after at s t own.0 own.1 two on) (wanted_before s t two.ahead on)) seats both apart);
     }
 
+-- of any two seats the first is ahead of the second and, on one row, clear of it
+seats_apart : (t : Tables) → formed t.rows t.seats ≡ true → EveryPair Apart t.seats
+seats_apart t well =
+    let listed = formed_listed t.rows t.seats well in
+    let sited : (r : Row) → SitedOn (seats_on r t.seats) = formed_sited t.rows t.seats well in
+    pairs_with (λ s t. seat_ahead s t ≡ true) Clear Apart (λ s t ahead clear. record { ahead = ahead; clear = clear }) t.seats (ordered_pairs seat_ahead t.seats listed.order) (pairs_own t.seats (λ r. (sited r).clear))
+
 -- what where_is answers is a setting
-pub tables_setting : (rows : List Row) (seats : List Seat) → formed rows seats ≡ true → Setting (map standing_of seats) (site_in (where_answer seats))
-tables_setting rows seats well =
-    let at = site_in (where_answer seats) in
-    let listed = formed_listed rows seats well in
-    let sited : (r : Row) → SitedOn (seats_on r seats) = formed_sited rows seats well in
-    sited_setting at seats
-    (all_with (λ s. at s.cell.number ≡ s.site) (λ s. Passes s.cell) (Sited at) (λ s site passes. record { site = site; wide = wide s.cell passes }) seats (sites_are rows seats well) listed.pass)
-    (each_own Inside seats (λ r. kept_passing (on_row r) Inside seats (sited r).inside))
-    (pairs_with (λ s t. seat_ahead s t ≡ true) Clear Apart (λ s t ahead clear. record { ahead = ahead; clear = clear }) seats (ordered_pairs seat_ahead seats listed.order) (pairs_own seats (λ r. (sited r).clear)))
+pub tables_setting : (t : Tables) → formed t.rows t.seats ≡ true → Setting (map standing_of t.seats) (site_in (where_is t))
+tables_setting t well =
+    let at = site_in (where_is t) in
+    let listed = formed_listed t.rows t.seats well in
+    let sited : (r : Row) → SitedOn (seats_on r t.seats) = formed_sited t.rows t.seats well in
+    sited_setting at t.seats
+    (all_with (λ s. at s.cell.number ≡ s.site) (λ s. Passes s.cell) (Sited at) (λ s site passes. record { site = site; wide = wide s.cell passes }) t.seats (sites_are t well) listed.pass)
+    (each_own Inside t.seats (λ r. kept_passing (on_row r) Inside t.seats (sited r).inside))
+    (seats_apart t well)
+
+-- of two such seats the first stands ahead of the second
+stands_first : (s t : Seat) → 1 ≤ s.cell.width → Apart s t → stands_ahead s t ≡ true
+stands_first s t wide apart =
+    ⊎_elim (λ other. or_left (row_ahead s.row t.row) (same_row s.row t.row && ltb s.site t.site) other)
+    (λ own.
+    let on = (and_parts (on_row t.row s) (before s.cell t.cell) own).0 in
+    let after = apart.clear on in
+    or_right (row_ahead s.row t.row) (same_row s.row t.row && ltb s.site t.site) (and_from (same_row s.row t.row) (ltb s.site t.site) on (lt-ltb s.site t.site (omega arith))))
+    (or_cases (row_ahead s.row t.row) (on_row t.row s && before s.cell t.cell) apart.ahead)
+
+-- so the seats are in row order and then by site
+pub seats_in_order : (t : Tables) → formed t.rows t.seats ≡ true → EveryPair (λ s r. stands_ahead s r ≡ true) t.seats
+seats_in_order t well =
+    let wides = All-weaker (λ s. Passes s.cell) (λ s. 1 ≤ s.cell.width) (λ s passes. wide s.cell passes) t.seats (formed_listed t.rows t.seats well).pass in
+    pairs_with (λ s r. (1 ≤ s.cell.width) × (1 ≤ r.cell.width)) Apart (λ s r. stands_ahead s r ≡ true) (λ s r wide apart. stands_first s r wide.0 apart) t.seats
+    (pairs_both (λ s. 1 ≤ s.cell.width) t.seats wides) (seats_apart t well)
+
+-- and the rows are in row order
+pub rows_in_order : (t : Tables) → formed t.rows t.seats ≡ true → EveryPair (λ a b. row_ahead a b ≡ true) t.rows
+rows_in_order t well = ordered_pairs row_ahead t.rows (ordered_rows t.rows t.seats well)
 
 -- what holds of any two standing cells of one row, placed, holds of any two placed cells of a row
 row_pairs : (R : row_settings.Placed → row_settings.Placed → Type 0) (at : ℕ → ℕ) (row : Row) (seats : List Seat) → EveryPair (λ k l. OnOneRow k l → R (placed at k) (placed at l)) (map standing_of seats) → EveryPair R (map (λ s. placed at (standing_of s)) (seats_on row seats))
@@ -175,10 +207,10 @@ listed_setting rows seats listed other setting row standing =
     }
 
 -- and so it is where they have sites as they should
-pub row_setting : (rows : List Row) (seats : List Seat) → formed rows seats ≡ true → (other : ℕ → ℕ) → Setting (map standing_of seats) other → (row : Row) → Standing rows row →
-    row_settings.Setting row (cells_on row seats) (map (λ s. other s.cell.number) (seats_on row seats))
-row_setting rows seats well = listed_setting rows seats (formed_listed rows seats well)
+pub row_setting : (t : Tables) → formed t.rows t.seats ≡ true → (other : ℕ → ℕ) → Setting (map standing_of t.seats) other → (row : Row) → Standing t.rows row →
+    row_settings.Setting row (cells_on row t.seats) (map (λ s. other s.cell.number) (seats_on row t.seats))
+row_setting t well = listed_setting t.rows t.seats (formed_listed t.rows t.seats well)
 
 -- the cells of a standing row are as `set` accepts them
-pub row_accepted : (rows : List Row) (seats : List Seat) → formed rows seats ≡ true → length seats ≤ 1024 → (row : Row) → Standing rows row → Accepted row (cells_on row seats) (length (cells_on row seats))
-row_accepted rows seats well few row standing = ready_known row (cells_on row seats) (row_ready rows seats row well standing few)
+pub row_accepted : (t : Tables) → formed t.rows t.seats ≡ true → length t.seats ≤ 1024 → (row : Row) → Standing t.rows row → Accepted row (cells_on row t.seats) (length (cells_on row t.seats))
+row_accepted t well few row standing = ready_known row (cells_on row t.seats) (row_ready t.rows t.seats row well standing few)

@@ -3,5 +3,5 @@ pub mod Histories
 pub mod Settings
 pub mod Law
 pub mod Slack
-pub mod Lives
+pub mod Lawful
 pub mod Worked

@@ -1,8 +1,8 @@
 // A call of a floor as a value, and what came of it.
 ghost use Rattle.std.specs.Prelude.{◌≡◌};
-ghost use Rattle.floor.specs.Settled.{Settled};
-ghost use Rattle.floor.specs.State.{measure_of, rows_of, seats_of};
-ghost use Rattle.history.specs.Events.{event_of, rows_then, seats_then};
+ghost use Rattle.floor.specs.State.{measure_of, tables_of};
+ghost use Rattle.history.specs.Events.{event_of, tables_then};
+ghost use Rattle.history.specs.Histories.{call_of};
 
 use floor::{Floor, Placing, Refusal};
 use measure::Measure;
@@ -29,12 +29,10 @@ pub enum Event {
 impl Call {
     // Makes the call on a floor: what came of it.
     pub fn make<M: Measure + Drop>(self, floor: &mut Floor<M>) -> Event
-        ensures event { result ≡ event_of (M.price (measure_of floor.old)) (rows_of floor.old) (seats_of floor.old) self }
-        ensures rows { rows_of floor.new ≡ rows_then (rows_of floor.old) self }
-        ensures seats { seats_of floor.new ≡ seats_then (M.price (measure_of floor.old)) (rows_of floor.old) (seats_of floor.old) self }
+        ensures event { result ≡ event_of (M.price (measure_of floor.old)) (tables_of floor.old) self }
+        ensures tables { tables_of floor.new ≡ tables_then (M.price (measure_of floor.old)) (tables_of floor.old) self }
         ensures same { measure_of floor.new ≡ measure_of floor.old }
-        ensures stays_set { Settled (M.price (measure_of floor.old)) (rows_of floor.old) (seats_of floor.old)
-            → Settled (M.price (measure_of floor.new)) (rows_of floor.new) (seats_of floor.new) }
+        ensures call { call_of result ≡ self }
     {
         match self {
             Call::AddRow(row) => Event::Added(row, floor.add_row(row)),

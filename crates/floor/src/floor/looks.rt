@@ -1,8 +1,8 @@
 // The calls that only look: where a cell stands, and what the floor costs.
 ghost use Rattle.std.specs.Prelude.{◌≡◌, ◌^◌, ◌≤◌, slice_get};
-ghost use Rattle.floor.specs.Calls.{where_answer};
+ghost use Rattle.floor.specs.Calls.{where_is};
 ghost use Rattle.floor.specs.Seats.{floor_cost};
-ghost use Rattle.floor.specs.State.{seats_of};
+ghost use Rattle.floor.specs.State.{measure_of, seats_of, tables_of};
 
 use crate::floor::Floor;
 use crate::{Refusal, Seat};
@@ -12,7 +12,7 @@ use row::Spot;
 impl<M: Measure> Floor<M> {
     // Where a standing cell stands, by its number.
     pub fn where_is(&self, number: u32) -> Result<Spot, Refusal>
-        ensures { result ≡ where_answer (seats_of self.now) number }
+        ensures { result ≡ where_is (tables_of self.now) number }
     {
         self.seats
             .find(number)
@@ -22,7 +22,7 @@ impl<M: Measure> Floor<M> {
 
     // What the floor costs: for each standing cell, the cost of its site and of its line.
     pub fn cost(&self) -> u64
-        ensures value { result ≡ floor_cost (M.price self.now.measure) (seats_of self.now) }
+        ensures value { result ≡ floor_cost (M.price (measure_of self.now)) (seats_of self.now) }
         ensures bound { result ≤ 2 ^ 53 }
     {
         let seats = self.seats.as_slice();

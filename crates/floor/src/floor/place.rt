@@ -2,11 +2,11 @@
 ghost use Rattle.std.specs.Prelude.{◌≡◌, None, IfOk};
 ghost use Rattle.std.specs.Option.{option_map};
 ghost use Rattle.row.specs.Checked.{checked};
-ghost use Rattle.floor.specs.Calls.{chosen, place_answer, seats_after_place};
+ghost use Rattle.floor.specs.Calls.{chosen, place};
 ghost use Rattle.floor.specs.Choices.{choice_of};
 ghost use Rattle.floor.specs.Refusals.{cell_refusal};
 ghost use Rattle.floor.specs.Settled.{Settled, Least, CostsMore};
-ghost use Rattle.floor.specs.State.{rows_of, seats_of};
+ghost use Rattle.floor.specs.State.{measure_of, rows_of, seats_of, tables_of};
 
 use crate::choice::{Choice, Offer};
 use crate::floor::Floor;
@@ -46,15 +46,14 @@ impl<M: Measure> Floor<M> {
     // Places a cell on the row of least rise, and sets that row. Answers where the cell stands, and the rise.
     // A floor whose rows are set stays so, and costs the rise more: a rise never stops at 0 there.
     pub fn place(&mut self, cell: Cell) -> Result<Placing, Refusal>
-        ensures answer { result ≡ place_answer (M.price self.old.measure) (rows_of self.old) (seats_of self.old) cell }
-        ensures seats { seats_of self.new ≡ seats_after_place (M.price self.old.measure) (rows_of self.old) (seats_of self.old) cell }
-        ensures rows { rows_of self.new ≡ rows_of self.old }
-        ensures same { self.new.measure ≡ self.old.measure }
-        ensures least { IfOk result (Least (M.price self.old.measure) (rows_of self.old) (seats_of self.old) cell) }
-        ensures stays_set { Settled (M.price self.old.measure) (rows_of self.old) (seats_of self.old)
-            → Settled (M.price self.new.measure) (rows_of self.new) (seats_of self.new) }
-        ensures dearer { Settled (M.price self.old.measure) (rows_of self.old) (seats_of self.old)
-            → IfOk result (CostsMore (M.price self.old.measure) (seats_of self.old) (seats_of self.new)) }
+        ensures answer { result ≡ (place (M.price (measure_of self.old)) (tables_of self.old) cell).answer }
+        ensures tables { tables_of self.new ≡ (place (M.price (measure_of self.old)) (tables_of self.old) cell).tables }
+        ensures same { measure_of self.new ≡ measure_of self.old }
+        ensures least { IfOk result (Least (M.price (measure_of self.old)) (tables_of self.old) cell) }
+        ensures stays_set { Settled (M.price (measure_of self.old)) (rows_of self.old) (seats_of self.old)
+            → Settled (M.price (measure_of self.new)) (rows_of self.new) (seats_of self.new) }
+        ensures dearer { Settled (M.price (measure_of self.old)) (rows_of self.old) (seats_of self.old)
+            → IfOk result (CostsMore (M.price (measure_of self.old)) (tables_of self.old) (tables_of self.new)) }
     {
         self.check_cell(&cell)?;
         let choice = self.choose(cell).ok_or(Refusal::NoRoom)?;

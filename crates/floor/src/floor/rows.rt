@@ -1,13 +1,14 @@
 // Making a floor, and adding rows to it.
-ghost use Rattle.std.specs.Prelude.{◌≡◌, ℕ, [], IfOk};
+ghost use Rattle.std.specs.Prelude.{◌≡◌, ℕ, IfOk};
 ghost use Rattle.std.specs.List.{list_any};
 ghost use Rattle.measure.specs.Costs.{Price};
 ghost use Rattle.row.specs.Checked.{checked};
-ghost use Rattle.floor.specs.Calls.{rows_after};
+ghost use Rattle.floor.specs.Calls.{add_row};
 ghost use Rattle.floor.specs.Refusals.{add_refusal};
 ghost use Rattle.floor.specs.Rows.{share};
 ghost use Rattle.floor.specs.Settled.{Settled};
-ghost use Rattle.floor.specs.State.{rows_of, seats_of};
+ghost use Rattle.floor.specs.State.{measure_of, rows_of, seats_of, tables_of};
+ghost use Rattle.floor.specs.Tables.{no_tables};
 
 use crate::Refusal;
 use crate::floor::{Floor, MOST_ROWS};
@@ -33,7 +34,7 @@ fn shares_any(row: &Row, rows: &[Row]) -> bool
 impl<M: Drop> Floor<M> {
     // An empty floor with a measure. It takes the memory for all rows and cells that it may ever hold.
     pub fn new(heap: Global, measure: M) -> Result<Floor<M>, AllocError>
-        ensures { IfOk result (λ f. (f.measure ≡ measure) × (rows_of f ≡ []) × (seats_of f ≡ [])) }
+        ensures { IfOk result (λ f. (measure_of f ≡ measure) × (tables_of f ≡ no_tables)) }
     {
         let rows = Vec::with_capacity(heap, MOST_ROWS)?;
         let seats = Seats::new(heap)?;
@@ -60,10 +61,9 @@ impl<M: Drop> Floor<M> {
 
     // Adds a row in row order. No cell moves, and a floor whose rows are set stays so, whatever its measure.
     pub fn add_row(&mut self, row: Row) -> Result<(), Refusal>
-        ensures answer { checked result ≡ add_refusal (rows_of self.old) row }
-        ensures rows { rows_of self.new ≡ rows_after (rows_of self.old) row }
-        ensures seats { seats_of self.new ≡ seats_of self.old }
-        ensures same { self.new.measure ≡ self.old.measure }
+        ensures answer { result ≡ (add_row (tables_of self.old) row).answer }
+        ensures tables { tables_of self.new ≡ (add_row (tables_of self.old) row).tables }
+        ensures same { measure_of self.new ≡ measure_of self.old }
         ensures stays_set { (price : Price) → Settled price (rows_of self.old) (seats_of self.old)
             → Settled price (rows_of self.new) (seats_of self.new) }
     {

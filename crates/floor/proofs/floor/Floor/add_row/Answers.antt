@@ -1,9 +1,9 @@
-use Rattle.std.proofs.Common.{◌≡◌, ◌+◌, ◌<◌, length, is_ok, vec_items, vec_len, sym, refl, ap, ◌∙◌, subst, true, arith}
+use Rattle.std.proofs.Common.{◌≡◌, ◌+◌, ◌<◌, length, is_ok, Ok, vec_items, vec_len, sym, refl, ap, ◌∙◌, subst, true, arith}
 use Rattle.std.proofs.lemmas.Bool.{cond-true}
-use Rattle.row.specs.Task.{changed}
-use Rattle.floor.specs.Calls.{with_row}
+use Rattle.floor.specs.Calls.{outcome_unless, with_row}
 use Rattle.floor.specs.Formed.{formed}
 use Rattle.floor.specs.Settled.{Settled}
+use Rattle.floor.specs.State.{tables_of}
 use Rattle.floor.proofs.Keeping.{add_settled}
 use Rattle.floor.proofs.Rowed.{row_added, row_placed, not_full}
 use Rattle.floor.proofs.floor.Floor.add_row.Goals as goal
@@ -34,11 +34,12 @@ returns g c =
     let few : length rows < 64 = not_full rows row (sym none) in
     let room = self.room in
     let ok : is_ok c.insert.result ≡ true = c.insert.ensures.succeeds (omega arith) in
-    let after = row_placed rows seats _ row _ self.well c.as_slice.ensures.value c.place_of-at.ensures.finds (c.insert.ensures.items ∙ cond-true (is_ok c.insert.result) _ _ ok) ∙ ap (λ refused. changed refused (with_row rows row) rows) none in
+    let items = row_placed rows seats _ row _ self.well c.as_slice.ensures.value c.place_of-at.ensures.finds (c.insert.ensures.items ∙ cond-true (is_ok c.insert.result) _ _ ok) in
+    let granted = ap (λ refusal. outcome_unless refusal (tables_of self) (record { answer = Ok tt; tables = record { rows = with_row rows row; seats = seats } })) none in
+    let after = ap (λ rs. record { rows = rs; seats = seats }) items ∙ ap (λ o. o.tables) granted in
     record {
-      answer = none;
-      rows = after;
-      seats = refl;
+      answer = ap (λ o. o.answer) granted;
+      tables = after;
       same = refl;
-      stays_set = λ price set. subst (λ rs. Settled price rs seats) (sym after) (add_settled price rows seats self.well set row);
+      stays_set = λ price set. subst (λ t. Settled price t.rows t.seats) (sym after) (add_settled price (tables_of self) self.well set row);
     }

@@ -1,11 +1,16 @@
-use Rattle.std.proofs.Common.{Ok, ap, ◌∙◌, sym, subst}
+use Rattle.std.proofs.Common.{◌≡◌, Ok, ap, ◌∙◌, sym, subst}
+use Rattle.floor.specs.Calls.{seated, place}
+use Rattle.floor.specs.Choices.{placing_of}
 use Rattle.floor.specs.Formed.{formed}
 use Rattle.floor.specs.Seats.{floor_cost}
 use Rattle.floor.specs.Settled.{Settled}
+use Rattle.floor.specs.State.{tables_of}
+use Rattle.floor.specs.Tables.{Outcome}
+use Rattle.floor.specs.declared.Placing.{Placing}
 use Rattle.floor.proofs.Best.{place_least}
 use Rattle.floor.proofs.Dearer.{place_dearer}
 use Rattle.floor.proofs.Keeping.{place_settled}
-use Rattle.floor.proofs.Placed.{Chose, chose, placing_is, seats_then}
+use Rattle.floor.proofs.Placed.{Chose, chose, placing_is}
 use Rattle.floor.proofs.floor.Floor.place.Given as given
 use Rattle.floor.proofs.floor.Floor.place.Goals as goal
 
@@ -27,29 +32,34 @@ known g c =
     let self = c.args.self.now in
     chose (g.met.M.Measure.fair self.measure) self.rows.items self.seats.items.items c.args.cell self.well c.in_ok-check_cell.ensures c.in_ok-choice.ensures.value c.choose.ensures
 
-pub returns-clause-answer : goal.returns-clause-answer
-returns-clause-answer g c =
+-- what placing comes to
+comes : (g : given.Over) (c : goal.After-placing g) → let self = c.args.self.now in
+    ◌≡◌ {A = Outcome Placing} (record { answer = Ok (placing_of c.in_ok-choice.choice); tables = record { rows = self.rows.items; seats = seated (g.M.Measure.price self.measure) self.seats.items.items c.args.cell c.in_ok-choice.choice.row } }) (place (g.M.Measure.price self.measure) (tables_of self) c.args.cell)
+comes g c =
     let self = c.args.self.now in
-    ap Ok c.placing.ensures ∙ placing_is self.rows.items self.seats.items.items c.args.cell c.in_ok-choice.choice (known g c)
+    placing_is (tables_of self) c.args.cell c.in_ok-choice.choice (known g c)
 
-pub returns-clause-seats : goal.returns-clause-seats
-returns-clause-seats g c =
+pub returns-clause-answer : goal.returns-clause-answer
+returns-clause-answer g c = ap Ok c.placing.ensures ∙ ap (λ o. o.answer) (comes g c)
+
+pub returns-clause-tables : goal.returns-clause-tables
+returns-clause-tables g c =
     let self = c.args.self.now in
-    c.seat.ensures ∙ seats_then self.rows.items self.seats.items.items c.args.cell c.in_ok-choice.choice (known g c)
+    ap (λ seats. record { rows = self.rows.items; seats = seats }) c.seat.ensures ∙ ap (λ o. o.tables) (comes g c)
 
 pub returns-clause-least : goal.returns-clause-least
 returns-clause-least g c =
     let self = c.args.self.now in
-    place_least (g.M.Measure.price self.measure) self.rows.items self.seats.items.items self.well c.args.cell _ (sym (returns-clause-answer g c))
+    place_least (g.M.Measure.price self.measure) (tables_of self) self.well c.args.cell _ (sym (returns-clause-answer g c))
 
 pub returns-clause-stays_set : goal.returns-clause-stays_set
 returns-clause-stays_set g c set =
     let self = c.args.self.now in
     let price = g.M.Measure.price self.measure in
-    subst (Settled price self.rows.items) (sym (returns-clause-seats g c)) (place_settled price (g.met.M.Measure.fair self.measure) self.rows.items self.seats.items.items self.well set c.args.cell)
+    subst (λ t. Settled price t.rows t.seats) (sym (returns-clause-tables g c)) (place_settled price (g.met.M.Measure.fair self.measure) (tables_of self) self.well set c.args.cell)
 
 pub returns-clause-dearer : goal.returns-clause-dearer
 returns-clause-dearer g c set =
     let self = c.args.self.now in
     let price = g.M.Measure.price self.measure in
-    ap (floor_cost price) (returns-clause-seats g c) ∙ place_dearer price (g.met.M.Measure.fair self.measure) self.rows.items self.seats.items.items self.well set c.args.cell _ (sym (returns-clause-answer g c))
+    ap (λ t. floor_cost price t.seats) (returns-clause-tables g c) ∙ place_dearer price (g.met.M.Measure.fair self.measure) (tables_of self) self.well set c.args.cell _ (sym (returns-clause-answer g c))

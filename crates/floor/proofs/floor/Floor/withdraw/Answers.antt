@@ -1,6 +1,7 @@
-use Rattle.std.proofs.Common.{sym, ap, ◌∙◌, subst}
+use Rattle.std.proofs.Common.{Ok, sym, ap, ◌∙◌, subst}
 use Rattle.floor.specs.Formed.{formed}
 use Rattle.floor.specs.Settled.{Settled}
+use Rattle.floor.specs.State.{tables_of}
 use Rattle.floor.proofs.Leaving.{found_known, withdraw_formed, withdraw_settled}
 use Rattle.floor.proofs.floor.Floor.withdraw.Goals as goal
 
@@ -8,25 +9,29 @@ use Rattle.floor.proofs.floor.Floor.withdraw.Goals as goal
 pub unseat-requires : goal.unseat-requires
 unseat-requires g c =
     let self = c.args.self.now in
-    (found_known (g.M.Measure.price self.measure) self.rows.items self.seats.items.items c.args.number c.in_ok-seat.seat self.well self.seats.room.0 self.seats.items.ok.0 c.find.ensures c.in_ok-seat.ensures.ok_part).ready
+    (found_known (g.M.Measure.price self.measure) (tables_of self) c.args.number c.in_ok-seat.seat self.well self.seats.room.0 self.seats.items.ok.0 c.find.ensures c.in_ok-seat.ensures.ok_part).ready
 
 pub invariant_of-self : goal.invariant_of-self
 invariant_of-self g c =
     let self = c.args.self.now in
     let price = g.M.Measure.price self.measure in
-    let rows = self.rows.items in
-    let seats = self.seats.items.items in
-    let known = found_known price rows seats c.args.number c.in_ok-seat.seat self.well self.seats.room.0 self.seats.items.ok.0 c.find.ensures c.in_ok-seat.ensures.ok_part in
-    record { room = self.room; well = ap (formed rows) (c.unseat.ensures ∙ known.after) ∙ withdraw_formed price (g.met.M.Measure.fair self.measure) rows seats self.well c.args.number }
+    let known = found_known price (tables_of self) c.args.number c.in_ok-seat.seat self.well self.seats.room.0 self.seats.items.ok.0 c.find.ensures c.in_ok-seat.ensures.ok_part in
+    record { room = self.room; well = ap (formed self.rows.items) (c.unseat.ensures ∙ known.after) ∙ ap (λ o. formed o.tables.rows o.tables.seats) known.is ∙ withdraw_formed price (g.met.M.Measure.fair self.measure) (tables_of self) self.well c.args.number }
 
-pub returns-clause-seats : goal.returns-clause-seats
-returns-clause-seats g c =
+pub returns-clause-answer : goal.returns-clause-answer
+returns-clause-answer g c =
     let self = c.args.self.now in
-    let known = found_known (g.M.Measure.price self.measure) self.rows.items self.seats.items.items c.args.number c.in_ok-seat.seat self.well self.seats.room.0 self.seats.items.ok.0 c.find.ensures c.in_ok-seat.ensures.ok_part in
-    c.unseat.ensures ∙ known.after
+    let known = found_known (g.M.Measure.price self.measure) (tables_of self) c.args.number c.in_ok-seat.seat self.well self.seats.room.0 self.seats.items.ok.0 c.find.ensures c.in_ok-seat.ensures.ok_part in
+    ap Ok c.spot.ensures ∙ ap (λ o. o.answer) known.is
+
+pub returns-clause-tables : goal.returns-clause-tables
+returns-clause-tables g c =
+    let self = c.args.self.now in
+    let known = found_known (g.M.Measure.price self.measure) (tables_of self) c.args.number c.in_ok-seat.seat self.well self.seats.room.0 self.seats.items.ok.0 c.find.ensures c.in_ok-seat.ensures.ok_part in
+    ap (λ seats. record { rows = self.rows.items; seats = seats }) (c.unseat.ensures ∙ known.after) ∙ ap (λ o. o.tables) known.is
 
 pub returns-clause-stays_set : goal.returns-clause-stays_set
 returns-clause-stays_set g c set =
     let self = c.args.self.now in
     let price = g.M.Measure.price self.measure in
-    subst (Settled price self.rows.items) (sym (returns-clause-seats g c)) (withdraw_settled price (g.met.M.Measure.fair self.measure) self.rows.items self.seats.items.items self.well set c.args.number)
+    subst (λ t. Settled price t.rows t.seats) (sym (returns-clause-tables g c)) (withdraw_settled price (g.met.M.Measure.fair self.measure) (tables_of self) self.well c.args.number set)

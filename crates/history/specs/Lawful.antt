@@ -1,0 +1,35 @@
+-- That a floor has a history: it obeys the law for it, and nothing hides in it.
+use Rattle.std.specs.Prelude.{◌≡◌, Bool, true, ◌||◌, ◌&&◌, List, map, nat_lt, IsPermutation}
+use Rattle.measure.specs.Costs.{Price}
+use Rattle.row.specs.Records.{row_ahead}
+use Rattle.row.specs.Settings.{EveryPair}
+use Rattle.floor.specs.Calls.{where_is}
+use Rattle.floor.specs.Rows.{same_row}
+use Rattle.floor.specs.Seats.{floor_cost}
+use Rattle.floor.specs.Tables.{Tables}
+use Rattle.floor.specs.declared.Seat.{Seat}
+use Rattle.history.specs.Histories.{Standing, rows_in, standing_in}
+use Rattle.history.specs.Law.{Law}
+use Rattle.history.specs.Settings.{Where, site_in, cost}
+use Rattle.history.specs.declared.call.Event.{Event}
+
+-- the order in which cells stand: by row order, and on a row by site
+abbrev pub stands_ahead : Seat → Seat → Bool
+stands_ahead s t = row_ahead s.row t.row || (same_row s.row t.row && nat_lt s.site t.site)
+
+-- the seat of a standing cell: on its row, at the site that where_is answers for its number
+abbrev pub seat_at : Where → Standing → Seat
+seat_at where_is k = record { cell = k.cell; row = k.row; site = site_in where_is k.cell.number }
+
+-- A floor of this price that holds these rows and seats has this history, the latest event first.
+-- Its answers obey the law, and its cost is the sum over what stands. Its rows are those that stand,
+-- in row order. Its seats are the cells that stand, each on its row and at the site that where_is
+-- answers, in row order and then by site.
+pub record Obeys (price : Price) (history : List Event) (tables : Tables) : Type 0 where
+  pub law : Law price history (where_is tables)
+  pub costs :
+      floor_cost price tables.seats ≡ cost price (standing_in history) (site_in (where_is tables))
+  pub rows : IsPermutation (rows_in history) tables.rows
+  pub rows_in_order : EveryPair (λ a b. row_ahead a b ≡ true) tables.rows
+  pub seats : IsPermutation (map (seat_at (where_is tables)) (standing_in history)) tables.seats
+  pub seats_in_order : EveryPair (λ s t. stands_ahead s t ≡ true) tables.seats
