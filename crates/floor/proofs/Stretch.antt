@@ -1,28 +1,24 @@
 -- The seats of a row are one stretch of an ordered table.
-use Rattle.std.proofs.Common.{◌≡◌, ℕ, cond, ◌+◌, ◌-◌, ◌≤◌, Bool, true, false, List, [], ◌∷◌, ◌++◌, map, length, take, drop, sym, refl, ap, ◌∙◌, subst, append_assoc, one-add, ⊎_elim, arith}
+use Rattle.std.proofs.Common.{◌≡◌, ℕ, ◌+◌, ◌-◌, ◌≤◌, Bool, true, false, List, [], ◌∷◌, ◌++◌, map, length, take, drop, sym, refl, ap, ◌∙◌, subst, append_assoc, one-add, ⊎_elim, arith}
 use mathlib.Core.List.{map-append}
-use Rattle.std.proofs.ByRecursion.{All-weaker, all_kept_by, kept_by_passes}
+use Rattle.std.proofs.ByRecursion.{All-weaker, all_kept_by}
 use Rattle.std.proofs.lemmas.Bool.{cond_both, cond-true, cond-false, both_ways, cases_Bool}
 use Rattle.std.proofs.lemmas.List.Sums.{length-filter, count_by-le-length, prefix_len-le-length, take_while-cons}
 use Rattle.std.proofs.lemmas.List.{length-drop}
 use Rattle.std.specs.List.{prefix_len, take_while, AllByRecursion}
 use Rattle.std.specs.declared.ops.Range.{Range}
-use Rattle.std.specs.List.Sorted.{IsPartitionedBy, IsPartitionPoint}
-use Rattle.row.specs.Records.{before, row_ahead}
+use Rattle.row.specs.Records.{row_ahead}
 use Rattle.row.specs.declared.Cell.{Cell}
 use Rattle.row.specs.declared.Row.{Row}
 use Rattle.table.specs.Order.{Ordered, rank_of}
-use Rattle.row.proofs.Accepted.{before_trans}
-use Rattle.table.proofs.Halving.{ordered_splits, rank_at_point}
 use Rattle.table.proofs.Inserted.{put_in, inserted_is}
 use Rattle.table.proofs.Sides.{rank_within, rank_front, rank_back}
 use Rattle.floor.specs.Seats.{on_row, seat_ahead, seats_on, cells_on, cell_of, Sited, row_key, new_seat, joined}
 use Rattle.floor.specs.Spans.{Spanned}
 use Rattle.floor.specs.declared.Seat.{Seat}
 use Rattle.floor.proofs.Defaults.{no_seat}
-use Rattle.floor.proofs.Kept.{kept_yes, kept_no, kept_none, kept_parts, kept_ordered, ordered_drop, pairs_both, pairs_with}
+use Rattle.floor.proofs.Kept.{kept_yes, kept_no, kept_none, kept_parts, kept_ordered, ordered_drop}
 use Rattle.floor.proofs.Orders.{seat_chain}
-use Rattle.floor.proofs.Tests.{pairs_ordered, ordered_pairs}
 
 -- a seat that is ahead of a row's key is not on the row
 ahead_off : (row : Row) (s : Seat) → seat_ahead s (row_key row) ≡ true → on_row row s ≡ false
@@ -98,39 +94,6 @@ on_few row seats slice same =
 -- the seats of a row are in their order
 pub on_ordered : (row : Row) (seats slice : List Seat) → slice ≡ seats_on row seats → Ordered seat_ahead seats → Ordered seat_ahead slice
 on_ordered row seats slice same ordered = subst (Ordered seat_ahead) (sym same) (kept_ordered (on_row row) seat_ahead seats ordered)
-
--- of two seats of one row, the one whose cell is before is ahead
-own_ahead : (row : Row) (s t : Seat) → on_row row s ≡ true → on_row row t ≡ true → seat_ahead s t ≡ before s.cell t.cell
-own_ahead row s t p q = grind arith
-
--- two tests that agree on each of a list end the same
-prefix_same : {X : Type 0} (p q : X → Bool) (xs : List X) → AllByRecursion (λ x. p x ≡ q x) xs → prefix_len p xs ≡ prefix_len q xs
-prefix_same p q [] same = refl
-prefix_same p q (x ∷ xs) same = (λ i. cond (same.0 i) (1 + prefix_same p q xs same.1 i) 0)
-
--- wanted order alone says where a cell stands among the seats of a row
-module _ (row : Row) (cell : Cell) (seats slice : List Seat) (same : slice ≡ seats_on row seats) (ordered : Ordered seat_ahead seats) where
-  abbrev sooner : Seat → Seat → Bool
-  sooner s t = before s.cell t.cell
-
-  own : AllByRecursion (λ s. on_row row s ≡ true) slice
-  own = subst (AllByRecursion (λ s. on_row row s ≡ true)) (sym same) (kept_by_passes (on_row row) seats)
-
-  sooner_ordered : Ordered sooner slice
-  sooner_ordered =
-      pairs_ordered sooner slice
-      (pairs_with (λ s t. (on_row row s ≡ true) × (on_row row t ≡ true)) (λ s t. seat_ahead s t ≡ true) (λ s t. sooner s t ≡ true) (λ s t on first. sym (own_ahead row s t on.0 on.1) ∙ first) slice
-      (pairs_both (λ s. on_row row s ≡ true) slice own)
-      (ordered_pairs seat_ahead slice (on_ordered row seats slice same ordered)))
-
-  pub splits : IsPartitionedBy (λ s. before s.cell cell) slice
-  splits = ordered_splits sooner (λ a b c. before_trans a.cell b.cell c.cell) (new_seat row cell) slice sooner_ordered
-
-  pub place_among : (at : ℕ) → at ≤ length slice → IsPartitionPoint (λ s. before s.cell cell ≡ true) (λ s. before s.cell cell ≡ false) slice at → at ≡ rank_of seat_ahead slice (new_seat row cell)
-  place_among at bound point =
-      rank_at_point sooner (new_seat row cell) slice at bound point
-      ∙ prefix_same (λ s. sooner s (new_seat row cell)) (λ s. seat_ahead s (new_seat row cell)) slice
-      (All-weaker (λ s. on_row row s ≡ true) (λ s. before s.cell cell ≡ seat_ahead s (new_seat row cell)) (λ s on. sym (own_ahead row s (new_seat row cell) on (on_own row cell))) slice own)
 
 -- a key that no record is ahead of goes first
 put_first : {X : Type 0} (ahead : X → X → Bool) (k : X) (xs : List X) → AllByRecursion (λ x. ahead x k ≡ false) xs → put_in ahead k xs ≡ k ∷ xs

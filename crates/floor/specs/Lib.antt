@@ -1,5 +1,6 @@
 pub mod Rows
 pub mod Seats
+pub mod Ranks
 pub mod Refusals
 pub mod Calls
 pub mod Choices

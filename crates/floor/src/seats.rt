@@ -1,9 +1,10 @@
 // The table of seats inside a floor: its order, and what it always keeps.
-ghost use Rattle.std.specs.Prelude.{◌≤◌, vec_len, vec_capacity};
+ghost use Rattle.std.specs.Prelude.{◌≤◌, false, vec_len, vec_capacity};
 ghost use Rattle.std.specs.List.{AllByRecursion};
 ghost use Rattle.std.proofs.Common.{rules};
 ghost use Rattle.std.proofs.Props.{props};
 ghost use Rattle.floor.specs.Kept.{Ordered-prop};
+ghost use Rattle.floor.specs.Ranks.{seat_rank, seat_total};
 ghost use Rattle.floor.specs.Seats.{Sited, seat_ahead};
 ghost use Rattle.table.specs.Order.{Ordered};
 
@@ -31,7 +32,11 @@ pub(crate) struct Seats {
 impl Ranked for Seat {
     ghost ahead = { seat_ahead };
 
+    ghost rank = { seat_rank };
+
     ghost chain = { Prim.search rules };
+
+    ghost total = { seat_total };
 
     fn is_ahead(&self, other: &Seat) -> bool {
         self.rank() < other.rank()

@@ -1,5 +1,5 @@
 // Wanted order and row order.
-ghost use Rattle.std.specs.Prelude.{◌≡◌};
+ghost use Rattle.std.specs.Prelude.{◌≡◌, false, [], ◌∷◌};
 ghost use Rattle.row.specs.Records.{before, row_ahead};
 ghost use Rattle.std.proofs.Common.{rules};
 
@@ -19,7 +19,11 @@ impl Cell {
 impl Ranked for Row {
     ghost ahead = { row_ahead };
 
+    ghost rank = { λ row. row.line ∷ row.left ∷ [] };
+
     ghost chain = { Prim.search rules };
+
+    ghost total = { Prim.search rules };
 
     fn is_ahead(&self, other: &Row) -> bool {
         (self.line, self.left) < (other.line, other.left)

@@ -5,11 +5,13 @@ ghost use Rattle.floor.specs.Refusals.{stands};
 ghost use Rattle.table.specs.Order.{rank_of};
 ghost use Rattle.floor.specs.Seats.{CanTake, new_seat, seat_ahead};
 
+use crate::Seat;
 use crate::cells::{RowCells, push_cells};
 use crate::seats::set_ready;
 use crate::seats::stretch::RowSeats;
 use measure::Measure;
 use row::{Cell, FEW_CELLS, MANY_CELLS, MOST_CELLS};
+use table::place_of;
 
 // What a row set with a cell more comes to: what its sites cost then, and the cell's site.
 #[derive(Clone, Copy)]
@@ -19,12 +21,13 @@ pub(crate) struct Trial {
 }
 
 impl RowSeats<'_> {
-    // Where a cell would stand among the cells of the row. On one row wanted order alone tells, so that no row is compared.
-    fn place(&self, cell: &Cell) -> usize
+    // Where a cell would stand among the cells of the row.
+    #[tactic(auto, using(crate::proofs::Stretch::on_ordered))]
+    fn place(&self, cell: Cell) -> usize
         ensures bound { result ≤ length self.now.seats.now }
-        ensures finds { result ≡ rank_of seat_ahead self.now.seats.now (new_seat self.now.row cell.now) }
+        ensures finds { result ≡ rank_of seat_ahead self.now.seats.now (new_seat self.now.row cell) }
     {
-        self.seats.partition_point(|seat| seat.cell.is_before(cell))
+        place_of(self.seats, &Seat::new(self.row, cell))
     }
 
     // The trial of a cell on the row, in room for `N` cells.
@@ -40,7 +43,7 @@ impl RowSeats<'_> {
         let mut cells = RowCells::<N>::new();
         let mut room = [0; N];
         let sites = &mut room[..];
-        let at = self.place(&cell);
+        let at = self.place(cell);
         let (before, behind) = self.seats.split_at(at);
         push_cells(&mut cells, before);
         cells.push(cell);
