@@ -1,4 +1,5 @@
 pub mod Cells
 pub mod Turns
 pub mod Jobs
+pub mod PutsLemmas
 pub mod StreamBytes

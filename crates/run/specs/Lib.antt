@@ -3,6 +3,7 @@ pub mod Faults
 pub mod Legalized
 pub mod Parts
 pub mod Puts
+pub mod Started
 pub mod State
 pub mod Steps
 pub mod Texts
