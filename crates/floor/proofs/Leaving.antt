@@ -95,12 +95,12 @@ pub record Found (f : Price) (t : Tables) (number : ℕ) (s : Seat) : Type 0 whe
   pub after : settled f s.row (without s.cell.number t.seats) ≡ settled f s.row (without number t.seats)
 
 -- from what the program looked up
-pub found_known : (f : Price) (t : Tables) (number : ℕ) (s : Seat) {looked : Option Seat} {count : ℕ} → formed t.rows t.seats ≡ true → count ≤ 1024 → count ≡ length t.seats → looked ≡ seat_of number t.seats → looked ≡ Some s → Found f t number s
-found_known f t number s well few counted finds some =
+pub found_known : (f : Price) (t : Tables) (number : ℕ) (s : Seat) {looked : Option Seat} → formed t.rows t.seats ≡ true → length t.seats ≤ 1024 → looked ≡ seat_of number t.seats → looked ≡ Some s → Found f t number s
+found_known f t number s well few finds some =
     let found = sym finds ∙ some in
     let number_is = found_number number t.seats s found in
     record {
-      ready = without_ready t.rows t.seats well s.cell.number s (subst (λ n. seat_of n t.seats ≡ Some s) (sym number_is) found) (omega arith);
+      ready = without_ready t.rows t.seats well s.cell.number s (subst (λ n. seat_of n t.seats ≡ Some s) (sym number_is) found) few;
       is = ap (outcome_without f t number) (sym found);
       after = ap (λ n. settled f s.row (without n t.seats)) number_is;
     }

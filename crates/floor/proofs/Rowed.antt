@@ -1,7 +1,9 @@
 -- What every floor keeps, once a row is added.
-use Rattle.std.proofs.Common.{◌≡◌, ◌<◌, true, false, not, ◌&&◌, ltb, List, [], ◌∷◌, ℕ, length, is_some, None, ap, ◌∙◌, subst, sym, arith}
+use Rattle.std.proofs.Common.{◌≡◌, ◌+◌, ◌<◌, true, false, not, ◌&&◌, ltb, List, [], ◌∷◌, ℕ, length, is_some, None, ap, ◌∙◌, subst, sym, arith}
 use Rattle.std.proofs.ByRecursion.{All-weaker}
 use Rattle.std.proofs.lemmas.Bool.{and_parts, and_from, ltb-true}
+use Rattle.std.proofs.lemmas.List.Edits.{length-insert}
+use Rattle.std.proofs.lemmas.List.Sums.{prefix_len-le-length}
 use Rattle.std.specs.Option.{option_map}
 use Rattle.std.specs.List.{AllByRecursion, insert, list_all, list_any}
 use Rattle.row.specs.Records.{check, row_fault, row_ahead}
@@ -107,3 +109,7 @@ pub row_placed : (rows : List Row) (seats : List Seat) (looked : List Row) (row 
 row_placed rows seats looked row at well same finds put =
     let found : at ≡ rank_of row_ahead rows row = finds (subst (Ordered row_ahead) (sym same) (ordered_rows rows seats well)) ∙ ap (λ l. rank_of row_ahead l row) same in
     put ∙ ap (λ n. insert rows n row) found
+
+-- one row more
+pub with_more : (rows : List Row) (row : Row) → length (with_row rows row) ≡ length rows + 1
+with_more rows row = length-insert rows (rank_of row_ahead rows row) row (prefix_len-le-length (λ r. row_ahead r row) rows)

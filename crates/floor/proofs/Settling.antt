@@ -35,7 +35,7 @@ use Rattle.floor.proofs.Kept.{pairs_with, pairs_both, pairs_kept}
 use Rattle.floor.proofs.Listed.{Standing, standing_passes, Listed, Sited}
 use Rattle.floor.proofs.Moved.{written_resited}
 use Rattle.floor.proofs.Orders.{same_trans, same_sym, ahead_not_same}
-use Rattle.floor.proofs.Resited.{Behind, resited_formed, resited_ordered, resited_sited}
+use Rattle.floor.proofs.Resited.{Behind, resited_length, resited_formed, resited_ordered, resited_sited}
 use Rattle.floor.proofs.Tests.{ordered_pairs}
 
 -- checks that let pass
@@ -158,11 +158,12 @@ pub record Set (price : Price) (row : Row) (seats new : List Seat) : Type 0 wher
   pub is : new ≡ settled price row seats
   pub ordered : Ordered seat_ahead new
   pub sited : AllByRecursion OfTable new
+  pub few : length new ≤ 1024
 
 pub set_row : {f : Price} (fair : Fair f) (row : Row) (seats : List Seat) {looked slice moved : List Seat} {none gathered cells : List Cell} {sites : List ℕ} (r : Range ℕ) {n : ℕ} → Ready row (cells_on row seats) → Ordered seat_ahead seats → AllByRecursion OfTable seats → Spanned row seats r →
-    none ≡ [] → looked ≡ seats → gathered ≡ none ++ map cell_of (between r.start r.end looked) → cells ≡ gathered → sites ≡ row_sites f row cells → slice ≡ seats → moved ≡ moved_all sites (between r.start r.end slice) → n ≡ length seats →
+    none ≡ [] → looked ≡ seats → gathered ≡ none ++ map cell_of (between r.start r.end looked) → cells ≡ gathered → sites ≡ row_sites f row cells → slice ≡ seats → moved ≡ moved_all sites (between r.start r.end slice) → n ≡ length seats → length seats ≤ 1024 →
     Set f row seats (take n (put_mid r.start (r.end - r.start) slice moved ++ drop (length (put_mid r.start (r.end - r.start) slice moved)) seats))
-set_row {f} fair row seats {looked} {slice} {moved} {none} {gathered} {cells} {sites} r {n} ready ordered sited own empty look gather same set slices move long =
+set_row {f} fair row seats {looked} {slice} {moved} {none} {gathered} {cells} {sites} r {n} ready ordered sited own empty look gather same set slices move long few =
     let cs : List Cell = cells_on row seats in
     let all : cells ≡ cs = same ∙ gather ∙ (λ i. empty i ++ map cell_of (between r.start r.end (look i))) ∙ ap (map cell_of) own.seats_are in
     let found : sites ≡ row_sites f row cs = set ∙ ap (row_sites f row) all in
@@ -173,4 +174,5 @@ set_row {f} fair row seats {looked} {slice} {moved} {none} {gathered} {cells} {s
       is = is;
       ordered = subst (Ordered seat_ahead) (sym is) (resited_ordered row (row_sites f row cs) seats ordered);
       sited = subst (AllByRecursion OfTable) (sym is) (resited_sited row (row_sites f row cs) seats places sited);
+      few = let same = ap length is ∙ resited_length row (row_sites f row cs) seats in omega arith;
     }

@@ -1,8 +1,12 @@
 // A floor: its measure, its rows and its seats, with what every floor keeps.
-ghost use Rattle.std.specs.Prelude.{◌≡◌, ◌≤◌, true, vec_len, vec_capacity};
+ghost use Rattle.std.specs.Prelude.{◌≡◌, ◌≤◌, true, length};
+ghost use Rattle.std.proofs.Props.{props};
 ghost use Rattle.floor.specs.Formed.{formed};
+ghost use Rattle.floor.specs.Settled.{Settled};
 
 use crate::seats::Seats;
+use arrayvec::ArrayVec;
+use measure::Measure;
 use row::Row;
 
 mod looks;
@@ -14,12 +18,13 @@ mod withdraw;
 // The most rows that a floor has.
 const MOST_ROWS: usize = 64;
 
-// Rows and the cells that stand on them. It is legal and in wanted order at all times.
+// Rows and the cells that stand on them. It is legal and in wanted order at all times, and every row's sites are those that `set` gives its cells.
 #[derive(Drop)]
-pub struct Floor<M> {
+pub struct Floor<M: Measure> {
     measure: M,
-    rows: Vec<Row>,
+    rows: ArrayVec<Row, MOST_ROWS>,
     seats: Seats,
-    ghost room: { (vec_len rows ≤ 64) × (64 ≤ vec_capacity rows) },
+    ghost few: { length rows.items ≤ 64 },
     ghost well: { formed rows.items seats.items.items ≡ true },
+    ghost set: { Settled (M.price measure) rows.items seats.items.items } by { Prim.hlevel props },
 }

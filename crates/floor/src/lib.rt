@@ -11,7 +11,7 @@ pub use floor::Floor;
 use row::{Cell, Fault, Row, Spot};
 
 // The floor's record of one standing cell: the cell, the row that it stands on, and its site.
-#[derive(Clone, Copy, PartialEq, Eq, Debug)]
+#[derive(Clone, Copy, PartialEq, Eq, Debug, Default)]
 pub struct Seat {
     pub cell: Cell,
     pub row: Row,

@@ -1,5 +1,5 @@
 // The table of seats inside a floor: its order, and what it always keeps.
-ghost use Rattle.std.specs.Prelude.{◌≤◌, false, vec_len, vec_capacity};
+ghost use Rattle.std.specs.Prelude.{◌≤◌, false, length};
 ghost use Rattle.std.specs.List.{AllByRecursion};
 ghost use Rattle.std.proofs.Common.{rules};
 ghost use Rattle.std.proofs.Props.{props};
@@ -15,17 +15,19 @@ mod trial;
 mod walk;
 
 use crate::Seat;
+use arrayvec::ArrayVec;
+use row::MOST_CELLS;
 use setting::set_ready;
 pub(crate) use stretch::RowSeats;
 use table::Ranked;
 
-// The seats of the standing cells, in the order of rows and then in wanted order. There is room for 1,024 at all times.
+// The seats of the standing cells, in the order of rows and then in wanted order. There are at most 1,024.
 #[derive(Drop)]
 pub(crate) struct Seats {
-    items: Vec<Seat>,
+    items: ArrayVec<Seat, MOST_CELLS>,
     ghost ordered: { Ordered seat_ahead items.items } by { Ordered-prop items.items },
     ghost sited: { AllByRecursion Sited items.items } by { Prim.hlevel props },
-    ghost room: { (vec_len items ≤ 1024) × (1024 ≤ vec_capacity items) },
+    ghost few: { length items.items ≤ 1024 },
 }
 
 // Seats are ranked by row order, then by wanted order.

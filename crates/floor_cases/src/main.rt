@@ -90,11 +90,11 @@ fn call(floor: &mut Floor<MeasureName>, line: &str) -> anyhow::Result<Result<Ans
 // The calls before the first `floor` line go to a floor of the squared measure.
 fn main(rt: HostRuntime) -> anyhow::Result<()> {
     let heap = rt.alloc();
-    let mut floor = Floor::new(heap, MeasureName::Squared)?;
+    let mut floor = Floor::new(MeasureName::Squared);
     for line in BufReader::new(heap, rt.stdin())?.lines(heap) {
         let line = line?;
         if let Some(measure) = line.strip_prefix("floor ") {
-            floor = Floor::new(heap, measure_named(measure)?)?;
+            floor = Floor::new(measure_named(measure)?);
             println!(rt; "{line}")?;
             continue;
         }

@@ -36,7 +36,7 @@ pub struct Cell {
 }
 
 // A row: the sites from `left` to `right` - 1 of a line.
-#[derive(Clone, Copy, PartialEq, Eq, Debug)]
+#[derive(Clone, Copy, PartialEq, Eq, Debug, Default)]
 pub struct Row {
     pub line: u32,
     pub left: u32,

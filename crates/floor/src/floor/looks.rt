@@ -2,7 +2,7 @@
 ghost use Rattle.std.specs.Prelude.{◌≡◌, ◌^◌, ◌≤◌, slice_get};
 ghost use Rattle.floor.specs.Calls.{where_is};
 ghost use Rattle.floor.specs.Seats.{floor_cost};
-ghost use Rattle.floor.specs.State.{measure_of, seats_of, tables_of};
+ghost use Rattle.floor.specs.State.{price_of, seats_of, tables_of};
 
 use crate::floor::Floor;
 use crate::{Refusal, Seat};
@@ -22,7 +22,7 @@ impl<M: Measure> Floor<M> {
 
     // What the floor costs: for each standing cell, the cost of its site and of its line.
     pub fn cost(&self) -> u64
-        ensures value { result ≡ floor_cost (M.price (measure_of self.now)) (seats_of self.now) }
+        ensures value { result ≡ floor_cost (price_of self.now) (seats_of self.now) }
         ensures bound { result ≤ 2 ^ 53 }
     {
         let seats = self.seats.as_slice();

@@ -5,8 +5,8 @@ ghost use Rattle.row.specs.Checked.{checked};
 ghost use Rattle.floor.specs.Calls.{chosen, place};
 ghost use Rattle.floor.specs.Choices.{choice_of};
 ghost use Rattle.floor.specs.Refusals.{cell_refusal};
-ghost use Rattle.floor.specs.Settled.{Settled, Least, CostsMore};
-ghost use Rattle.floor.specs.State.{measure_of, rows_of, seats_of, tables_of};
+ghost use Rattle.floor.specs.Settled.{Least, CostsMore};
+ghost use Rattle.floor.specs.State.{measure_of, price_of, rows_of, seats_of, tables_of};
 
 use crate::choice::{Choice, Offer};
 use crate::floor::Floor;
@@ -32,8 +32,8 @@ impl<M: Measure> Floor<M> {
     // The row of least rise for a cell, with its rise and the cell's site there, if a row has sites for it.
     pub(super) fn choose(&self, cell: Cell) -> Option<Choice>
         requires { cell_refusal (seats_of self.now) cell ≡ None }
-        ensures { result ≡ option_map (choice_of (M.price self.now.measure) (seats_of self.now) cell)
-            (chosen (M.price self.now.measure) (seats_of self.now) cell (rows_of self.now)) }
+        ensures { result ≡ option_map (choice_of (price_of self.now) (seats_of self.now) cell)
+            (chosen (price_of self.now) (seats_of self.now) cell (rows_of self.now)) }
     {
         let offer = Offer {
             measure: &self.measure,
@@ -44,16 +44,13 @@ impl<M: Measure> Floor<M> {
     }
 
     // Places a cell on the row of least rise, and sets that row. Answers where the cell stands, and the rise.
-    // A floor whose rows are set stays so, and costs the rise more: a rise never stops at 0 there.
+    // The floor then costs the rise more.
     pub fn place(&mut self, cell: Cell) -> Result<Placing, Refusal>
-        ensures answer { result ≡ (place (M.price (measure_of self.old)) (tables_of self.old) cell).answer }
-        ensures tables { tables_of self.new ≡ (place (M.price (measure_of self.old)) (tables_of self.old) cell).tables }
+        ensures answer { result ≡ (place (price_of self.old) (tables_of self.old) cell).answer }
+        ensures tables { tables_of self.new ≡ (place (price_of self.old) (tables_of self.old) cell).tables }
         ensures same { measure_of self.new ≡ measure_of self.old }
-        ensures least { IfOk result (Least (M.price (measure_of self.old)) (tables_of self.old) cell) }
-        ensures stays_set { Settled (M.price (measure_of self.old)) (rows_of self.old) (seats_of self.old)
-            → Settled (M.price (measure_of self.new)) (rows_of self.new) (seats_of self.new) }
-        ensures dearer { Settled (M.price (measure_of self.old)) (rows_of self.old) (seats_of self.old)
-            → IfOk result (CostsMore (M.price (measure_of self.old)) (tables_of self.old) (tables_of self.new)) }
+        ensures least { IfOk result (Least (price_of self.old) (tables_of self.old) cell) }
+        ensures dearer { IfOk result (CostsMore (price_of self.old) (tables_of self.old) (tables_of self.new)) }
     {
         self.check_cell(&cell)?;
         let choice = self.choose(cell).ok_or(Refusal::NoRoom)?;

@@ -1,20 +1,19 @@
 // Making a floor, and adding rows to it.
-ghost use Rattle.std.specs.Prelude.{◌≡◌, ℕ, IfOk};
+ghost use Rattle.std.specs.Prelude.{◌≡◌};
 ghost use Rattle.std.specs.List.{list_any};
-ghost use Rattle.measure.specs.Costs.{Price};
 ghost use Rattle.row.specs.Checked.{checked};
 ghost use Rattle.floor.specs.Calls.{add_row};
 ghost use Rattle.floor.specs.Refusals.{add_refusal};
 ghost use Rattle.floor.specs.Rows.{share};
-ghost use Rattle.floor.specs.Settled.{Settled};
-ghost use Rattle.floor.specs.State.{measure_of, rows_of, seats_of, tables_of};
+ghost use Rattle.floor.specs.State.{measure_of, rows_of, tables_of};
 ghost use Rattle.floor.specs.Tables.{no_tables};
 
 use crate::Refusal;
 use crate::floor::{Floor, MOST_ROWS};
 use crate::seats::Seats;
+use arrayvec::ArrayVec;
+use measure::Measure;
 use row::Row;
-use std::alloc::{AllocError, Global};
 use table::place_of;
 
 // Whether two rows have a site in common.
@@ -31,18 +30,17 @@ fn shares_any(row: &Row, rows: &[Row]) -> bool
     rows.iter().any(|other| shares(row, other))
 }
 
-impl<M: Drop> Floor<M> {
-    // An empty floor with a measure. It takes the memory for all rows and cells that it may ever hold.
-    pub fn new(heap: Global, measure: M) -> Result<Floor<M>, AllocError>
-        ensures { IfOk result (λ f. (measure_of f ≡ measure) × (tables_of f ≡ no_tables)) }
+impl<M: Measure> Floor<M> {
+    // An empty floor with a measure.
+    pub fn new(measure: M) -> Floor<M>
+        ensures measure { measure_of result ≡ measure }
+        ensures empty { tables_of result ≡ no_tables }
     {
-        let rows = Vec::with_capacity(heap, MOST_ROWS)?;
-        let seats = Seats::new(heap)?;
-        Ok(Floor {
+        Floor {
             measure,
-            rows,
-            seats,
-        })
+            rows: ArrayVec::new(),
+            seats: Seats::new(),
+        }
     }
 
     // Refuses a row that is outside its ranges, that comes when `MOST_ROWS` stand, or that shares a site with one that stands.
@@ -59,17 +57,15 @@ impl<M: Drop> Floor<M> {
         Ok(())
     }
 
-    // Adds a row in row order. No cell moves, and a floor whose rows are set stays so, whatever its measure.
+    // Adds a row in row order. No cell moves.
     pub fn add_row(&mut self, row: Row) -> Result<(), Refusal>
         ensures answer { result ≡ (add_row (tables_of self.old) row).answer }
         ensures tables { tables_of self.new ≡ (add_row (tables_of self.old) row).tables }
         ensures same { measure_of self.new ≡ measure_of self.old }
-        ensures stays_set { (price : Price) → Settled price (rows_of self.old) (seats_of self.old)
-            → Settled price (rows_of self.new) (seats_of self.new) }
     {
         self.check_row(&row)?;
         let at = place_of(self.rows.as_slice(), &row);
-        self.rows.insert(at, row).unwrap();
+        self.rows.insert(at, row);
         Ok(())
     }
 }

@@ -1,5 +1,5 @@
 // Making the table of seats, and looking a number up in it.
-ghost use Rattle.std.specs.Prelude.{◌≡◌, ◌≤◌, [], length, IfOk};
+ghost use Rattle.std.specs.Prelude.{◌≡◌, ◌≤◌, [], length};
 ghost use Rattle.floor.specs.Calls.{seat_of, spot};
 ghost use Rattle.floor.specs.Refusals.{stands};
 ghost use Rattle.floor.specs.Seats.{new_seat, seat_ahead};
@@ -7,8 +7,8 @@ ghost use Rattle.table.specs.Order.{rank_of};
 
 use crate::Seat;
 use crate::seats::Seats;
-use row::{Cell, MOST_CELLS, Row, Spot};
-use std::alloc::{AllocError, Global};
+use arrayvec::ArrayVec;
+use row::{Cell, Row, Spot};
 use table::place_of;
 
 impl Seat {
@@ -39,12 +39,13 @@ impl Seat {
 }
 
 impl Seats {
-    // No seats, with the memory for all that may ever stand.
-    pub(crate) fn new(heap: Global) -> Result<Seats, AllocError>
-        ensures { IfOk result (λ seats. seats.items.items ≡ []) }
+    // No seats.
+    pub(crate) fn new() -> Seats
+        ensures { result.items.items ≡ [] }
     {
-        let items = Vec::with_capacity(heap, MOST_CELLS)?;
-        Ok(Seats { items })
+        Seats {
+            items: ArrayVec::new(),
+        }
     }
 
     // The seats, in their order.

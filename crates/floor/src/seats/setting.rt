@@ -95,7 +95,7 @@ impl Seats {
     {
         let seat = Seat::new(row, cell);
         let at = self.place(&seat);
-        self.items.insert(at, seat).unwrap();
+        self.items.insert(at, seat);
         self.settle(measure, row);
     }
 

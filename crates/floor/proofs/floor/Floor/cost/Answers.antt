@@ -20,9 +20,8 @@ pub overflow_add-sum-in-loop-seat : goal.overflow_add-sum-in-loop-seat
 overflow_add-sum-in-loop-seat g c =
     let self = c.args.self.now in
     let seat = one g c in
-    let few = self.seats.room.0 in
+    let few = self.seats.few in
     let long = ap length c.as_slice-seats.ensures in
-    let counted = self.seats.items.ok.0 in
     omega arith
 
 pub loop-seat-preserved : goal.loop-seat-preserved
@@ -37,7 +36,6 @@ returns g c =
     let f = g.M.Measure.price self.measure in
     let none : floor_cost f (drop c.loop-seat.seat-index seats) ≡ 0 = at_drop_all (floor_cost f) seats c.loop-seat.seat-index c.loop-seat-test.false in
     let same : floor_cost f seats ≡ floor_cost f self.seats.items.items = ap (floor_cost f) c.as_slice-seats.ensures in
-    let few = self.seats.room.0 in
+    let few = self.seats.few in
     let long = ap length c.as_slice-seats.ensures in
-    let counted = self.seats.items.ok.0 in
     record { value = omega arith; bound = omega arith }

@@ -24,7 +24,14 @@ pub invariant_of-self : goal.invariant_of-self
 invariant_of-self g c =
     let self = c.args.self.now in
     let known = chose (g.met.M.Measure.fair self.measure) self.rows.items self.seats.items.items c.args.cell self.well c.in_ok-check_cell.ensures c.in_ok-choice.ensures.value c.choose.ensures in
-    record { room = self.room; well = ap (formed self.rows.items) c.seat.ensures ∙ known.well }
+    let is = placing_is (tables_of self) c.args.cell c.in_ok-choice.choice known in
+    let price = g.M.Measure.price self.measure in
+    let after = ap (λ seats. record { rows = self.rows.items; seats = seats }) c.seat.ensures ∙ ap (λ o. o.tables) is in
+    record {
+      few = self.few;
+      well = ap (formed self.rows.items) c.seat.ensures ∙ known.well;
+      set = subst (λ t. Settled price t.rows t.seats) (sym after) (place_settled price (g.met.M.Measure.fair self.measure) (tables_of self) self.well self.set c.args.cell);
+    }
 
 -- what is known at the return
 known : (g : given.Over) (c : goal.After-placing g) → let self = c.args.self.now in Chose (g.M.Measure.price self.measure) self.rows.items self.seats.items.items c.args.cell c.in_ok-choice.choice
@@ -52,14 +59,8 @@ returns-clause-least g c =
     let self = c.args.self.now in
     place_least (g.M.Measure.price self.measure) (tables_of self) self.well c.args.cell _ (sym (returns-clause-answer g c))
 
-pub returns-clause-stays_set : goal.returns-clause-stays_set
-returns-clause-stays_set g c set =
-    let self = c.args.self.now in
-    let price = g.M.Measure.price self.measure in
-    subst (λ t. Settled price t.rows t.seats) (sym (returns-clause-tables g c)) (place_settled price (g.met.M.Measure.fair self.measure) (tables_of self) self.well set c.args.cell)
-
 pub returns-clause-dearer : goal.returns-clause-dearer
-returns-clause-dearer g c set =
+returns-clause-dearer g c =
     let self = c.args.self.now in
     let price = g.M.Measure.price self.measure in
-    ap (λ t. floor_cost price t.seats) (returns-clause-tables g c) ∙ place_dearer price (g.met.M.Measure.fair self.measure) (tables_of self) self.well set c.args.cell _ (sym (returns-clause-answer g c))
+    ap (λ t. floor_cost price t.seats) (returns-clause-tables g c) ∙ place_dearer price (g.met.M.Measure.fair self.measure) (tables_of self) self.well self.set c.args.cell _ (sym (returns-clause-answer g c))

@@ -9,29 +9,28 @@ use Rattle.floor.proofs.floor.Floor.withdraw.Goals as goal
 pub unseat-requires : goal.unseat-requires
 unseat-requires g c =
     let self = c.args.self.now in
-    (found_known (g.M.Measure.price self.measure) (tables_of self) c.args.number c.in_ok-seat.seat self.well self.seats.room.0 self.seats.items.ok.0 c.find.ensures c.in_ok-seat.ensures.ok_part).ready
+    (found_known (g.M.Measure.price self.measure) (tables_of self) c.args.number c.in_ok-seat.seat self.well self.seats.few c.find.ensures c.in_ok-seat.ensures.ok_part).ready
 
 pub invariant_of-self : goal.invariant_of-self
 invariant_of-self g c =
     let self = c.args.self.now in
     let price = g.M.Measure.price self.measure in
-    let known = found_known price (tables_of self) c.args.number c.in_ok-seat.seat self.well self.seats.room.0 self.seats.items.ok.0 c.find.ensures c.in_ok-seat.ensures.ok_part in
-    record { room = self.room; well = ap (formed self.rows.items) (c.unseat.ensures ∙ known.after) ∙ ap (λ o. formed o.tables.rows o.tables.seats) known.is ∙ withdraw_formed price (g.met.M.Measure.fair self.measure) (tables_of self) self.well c.args.number }
+    let known = found_known price (tables_of self) c.args.number c.in_ok-seat.seat self.well self.seats.few c.find.ensures c.in_ok-seat.ensures.ok_part in
+    let after = ap (λ seats. record { rows = self.rows.items; seats = seats }) (c.unseat.ensures ∙ known.after) ∙ ap (λ o. o.tables) known.is in
+    record {
+      few = self.few;
+      well = ap (λ t. formed t.rows t.seats) after ∙ withdraw_formed price (g.met.M.Measure.fair self.measure) (tables_of self) self.well c.args.number;
+      set = subst (λ t. Settled price t.rows t.seats) (sym after) (withdraw_settled price (g.met.M.Measure.fair self.measure) (tables_of self) self.well c.args.number self.set);
+    }
 
 pub returns-clause-answer : goal.returns-clause-answer
 returns-clause-answer g c =
     let self = c.args.self.now in
-    let known = found_known (g.M.Measure.price self.measure) (tables_of self) c.args.number c.in_ok-seat.seat self.well self.seats.room.0 self.seats.items.ok.0 c.find.ensures c.in_ok-seat.ensures.ok_part in
+    let known = found_known (g.M.Measure.price self.measure) (tables_of self) c.args.number c.in_ok-seat.seat self.well self.seats.few c.find.ensures c.in_ok-seat.ensures.ok_part in
     ap Ok c.spot.ensures ∙ ap (λ o. o.answer) known.is
 
 pub returns-clause-tables : goal.returns-clause-tables
 returns-clause-tables g c =
     let self = c.args.self.now in
-    let known = found_known (g.M.Measure.price self.measure) (tables_of self) c.args.number c.in_ok-seat.seat self.well self.seats.room.0 self.seats.items.ok.0 c.find.ensures c.in_ok-seat.ensures.ok_part in
+    let known = found_known (g.M.Measure.price self.measure) (tables_of self) c.args.number c.in_ok-seat.seat self.well self.seats.few c.find.ensures c.in_ok-seat.ensures.ok_part in
     ap (λ seats. record { rows = self.rows.items; seats = seats }) (c.unseat.ensures ∙ known.after) ∙ ap (λ o. o.tables) known.is
-
-pub returns-clause-stays_set : goal.returns-clause-stays_set
-returns-clause-stays_set g c set =
-    let self = c.args.self.now in
-    let price = g.M.Measure.price self.measure in
-    subst (λ t. Settled price t.rows t.seats) (sym (returns-clause-tables g c)) (withdraw_settled price (g.met.M.Measure.fair self.measure) (tables_of self) self.well c.args.number set)

@@ -10,10 +10,9 @@ overflow_add-result c =
     let self = c.args.self.now in
     let start = c.place-start.ensures.bound in
     let count = c.count_on.ensures.bound in
-    let rest = ap length (c.split_at.ensures.back ∙ ap (drop c.place-start.result) c.deref.ensures.value) in
+    let rest = ap length (c.split_at.ensures.back ∙ ap (drop c.place-start.result) c.deref.ensures.0) in
     let left = length-drop c.place-start.result self.items.items in
-    let room = self.room.0 in
-    let counted = self.items.ok.0 in
+    let few = self.few in
     omega arith
 
 pub returns : goal.returns
@@ -21,4 +20,4 @@ returns c =
     let self = c.args.self.now in
     let seats = self.items.items in
     let start = c.place-start.ensures.finds ∙ ap (rank_of seat_ahead seats) c.key.ensures in
-    spanned c.args.row seats _ self.ordered start (c.split_at.ensures.back ∙ ap (drop c.place-start.result) c.deref.ensures.value) c.count_on.ensures.value refl
+    spanned c.args.row seats _ self.ordered start (c.split_at.ensures.back ∙ ap (drop c.place-start.result) c.deref.ensures.0) c.count_on.ensures.value refl

@@ -14,6 +14,5 @@ invariant_of-result c =
     let steps = subst (λ rows. InStep seats rows ahead) c.in_ok-row.ensures.cases.0 self.in_step in
     let own : c.split_at.result.0.now ≡ seats_on row seats = c.split_at.ensures.front ∙ ap (λ n. take n ahead) c.count_on.ensures.value ∙ steps.0 in
     let fewer = on_few row seats c.split_at.result.0.now own in
-    let room = table.room.0 in
-    let counted = table.items.ok.0 in
+    let room = table.few in
     record { own = own; few = omega arith }
