@@ -1,5 +1,5 @@
 pub mod Cells
 pub mod Turns
-pub mod Jobs
 pub mod PutsLemmas
+pub mod Rests
 pub mod StreamBytes

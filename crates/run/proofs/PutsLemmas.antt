@@ -7,15 +7,18 @@ use Rattle.run.specs.Puts.{Puts}
 abbrev Buffer : Type 0
 Buffer = Vec ℕ Global
 
-abbrev Put : Type 0
-Put = Result (Unit {0}) AllocError
+abbrev Answer : Type 0
+Answer = Result (Unit {0}) AllocError
+
+abbrev Put : Buffer → Answer → List ℕ → Buffer → Type 0
+Put from put bytes to = Puts from put bytes to
 
 -- nothing is added
-pub puts_none : (from : Buffer) → Puts from (Ok {E = AllocError} (tt {0})) [] from
+pub puts_none : (from : Buffer) → Put from (Ok tt) [] from
 puts_none from = record { added = sym (append-nil (vec_items from)); part = tt; full = tt; room = omega arith }
 
 -- bytes behind those that could not be added
-pub puts_failed : (from to : Buffer) (why : AllocError) (said bytes : List ℕ) → Puts from (Err {T = Unit {0}} why) said to → Puts from (Err {T = Unit {0}} why) (said ++ bytes) to
+pub puts_failed : (from to : Buffer) (why : AllocError) (said bytes : List ℕ) → Put from (Err why) said to → Put from (Err why) (said ++ bytes) to
 puts_failed from to why said bytes puts = record {
   added = tt;
   part = record { part = puts.part.part; rest = puts.part.rest ++ bytes; whole = ap (λ xs. xs ++ bytes) puts.part.whole ∙ append_assoc _ _ _; stands = puts.part.stands };
@@ -24,11 +27,11 @@ puts_failed from to why said bytes puts = record {
 }
 
 -- bytes behind those that were added
-pub puts_more : (from mid to : Buffer) (put : Put) (said bytes : List ℕ) → Puts from (Ok {E = AllocError} (tt {0})) said mid
+pub puts_more : (from mid to : Buffer) (put : Answer) (said bytes : List ℕ) → Put from (Ok tt) said mid
     → vec_items to ≡ (if is_ok put then vec_items mid ++ bytes else vec_items mid)
     → OnErr put (vec_capacity mid < vec_len mid + length bytes)
     → vec_capacity mid ≤ vec_capacity to
-    → Puts from put (said ++ bytes) to
+    → Put from put (said ++ bytes) to
 puts_more from mid to (Ok t) said bytes puts items full room = record {
   added = items ∙ ap (λ xs. xs ++ bytes) puts.added ∙ append_assoc _ _ _;
   part = tt;

@@ -15,8 +15,3 @@ fault_number (Refused refusal) = refusals.number_of refusal
 abbrev pub fault_text : ℕ → Option (List ℕ) → Fault → List ℕ
 fault_text index name (Unread unread) = unreadable_text unread.index (causes.number_of unread.cause) unread.place
 fault_text index name (Refused refusal) = refused_text index (refusals.number_of refusal) name
-
--- the words: those of the reader's fault, or of the floor's refusal
-abbrev pub fault_words : Fault → List ℕ
-fault_words (Unread unread) = causes.fault_text unread
-fault_words (Refused refusal) = refusals.reason refusal

@@ -1,21 +1,13 @@
 -- What a job that is legalized leaves behind: on standard error and as a status, and what a failure leaves.
-use Rattle.std.specs.Prelude.{ℕ, ◌<◌, List, length, IfSome, Ok, Err, Some, None, Option, Result, Vec, vec_capacity, ⊤}
+use Rattle.std.specs.Prelude.{ℕ, ◌<◌, List, length, IfSome, Option, Vec, vec_capacity, ⊤}
 use Rattle.std.specs.Io.KnownBytes.{Keeps}
 use Rattle.std.specs.declared.alloc.Global.{Global}
-use Rattle.job.specs.Whole.{read_through}
-use Rattle.job.specs.declared.record.Fault.{Fault}
+use Rattle.job.specs.Records.{fault_of}
 use Rattle.run.specs.Complaints.{complaint_line, status_of}
 use Rattle.run.specs.Streams.{WritesPart}
 use Rattle.run.specs.Texts.{job_text}
 use Rattle.run.specs.declared.legalizing.Failure.{Failure}
 use Rattle.run.specs.declared.legalizing.Failure.TheVariants.{Unfetched, Unwritten, NoMemory}
-
-abbrev pub fault_in : Result (Unit {0}) Fault → Option Fault
-fault_in (Ok t) = None
-fault_in (Err f) = Some f
-
-abbrev pub fault_of : List ℕ → Option Fault
-fault_of job = fault_in (read_through job)
 
 -- what is written to standard error of a job
 abbrev pub complaint : List ℕ → List ℕ

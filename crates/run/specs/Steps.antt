@@ -1,5 +1,5 @@
 -- What the calls of a run answer, and what they leave.
-use Rattle.std.specs.Prelude.{ℕ, Bool, List, ◌++◌, length, drop, Some, None, Ok, Err, Option, Result, nat_le, slice_get, if◌then◌else◌}
+use Rattle.std.specs.Prelude.{ℕ, List, length, Some, None, Ok, Err, Option, Result, slice_get, if◌then◌else◌}
 use Rattle.std.specs.Option.{option_map}
 use Rattle.measure.specs.Costs.{Price}
 use Rattle.floor.specs.Refusals as refusals
@@ -9,29 +9,13 @@ use Rattle.floor.specs.declared.Refusal.TheVariants as refusal
 use Rattle.floor.specs.declared.Seat.{Seat}
 use Rattle.lines.specs.Texts.{cell_text, cost_text}
 use Rattle.lines.specs.Writes as writes
-use Rattle.lines.specs.Writes.{short_buffer}
-use Rattle.lines.specs.declared.ShortBuffer as short
+use Rattle.lines.specs.Writes.{short_buffer, takes_lines, with_text}
+use Rattle.lines.specs.declared.short_buffer.ShortBuffer as short
 use Rattle.run.specs.State.{State}
 use Rattle.run.specs.Turns.{Turn, turn}
 use Rattle.run.specs.declared.run.Step.{Step}
 use Rattle.run.specs.declared.run.looks.NoLine.{NoLine}
 use Rattle.run.specs.declared.run.looks.NoLine.TheVariants.{ShortBuffer, NotStanding}
-
--- whether a buffer takes every line
-abbrev pub long : List ℕ → Bool
-long buffer = nat_le 320 (length buffer)
-
--- a buffer with a line at its front; the buffer past it stays
-abbrev pub written : List ℕ → List ℕ → List ℕ
-written line buffer = line ++ drop (length line) buffer
-
--- the length of a line that is written into a buffer
-abbrev pub line_answer : List ℕ → List ℕ → Result ℕ short.ShortBuffer
-line_answer line buffer = if long buffer then Ok (length line) else Err short_buffer
-
--- the buffer then
-abbrev pub line_buffer : List ℕ → List ℕ → List ℕ
-line_buffer line buffer = if long buffer then written line buffer else buffer
 
 -- a step's line by its length, and the run's fault if there is one
 abbrev pub step_of : Turn → Step
@@ -45,20 +29,20 @@ state_left s (Some t) = t.after
 -- the buffer after a step; the same where nothing is left
 abbrev pub buffer_left : List ℕ → Option Turn → List ℕ
 buffer_left buffer None = buffer
-buffer_left buffer (Some t) = written t.said.line buffer
+buffer_left buffer (Some t) = with_text t.said.line buffer
 
 module _ (price : Price) where
   -- what a step answers: none where nothing is left
   abbrev pub step_answer : State → List ℕ → Result (Option Step) short.ShortBuffer
-  step_answer s buffer = if long buffer then Ok (option_map step_of (turn price s)) else Err short_buffer
+  step_answer s buffer = if takes_lines buffer then Ok (option_map step_of (turn price s)) else Err short_buffer
 
   -- the state after it
   abbrev pub step_state : State → List ℕ → State
-  step_state s buffer = if long buffer then state_left s (turn price s) else s
+  step_state s buffer = if takes_lines buffer then state_left s (turn price s) else s
 
   -- the buffer after it
   abbrev pub step_buffer : State → List ℕ → List ℕ
-  step_buffer s buffer = if long buffer then buffer_left buffer (turn price s) else buffer
+  step_buffer s buffer = if takes_lines buffer then buffer_left buffer (turn price s) else buffer
 
 -- the number of the refusal of a line
 abbrev pub no_line_number : NoLine → ℕ
@@ -77,16 +61,16 @@ seat_answer (Some s) = Ok (length (seat_text s))
 -- the buffer with the line of a seat, if there is one
 abbrev pub seat_buffer : List ℕ → Option Seat → List ℕ
 seat_buffer buffer None = buffer
-seat_buffer buffer (Some s) = written (seat_text s) buffer
+seat_buffer buffer (Some s) = with_text (seat_text s) buffer
 
 -- what is answered for the line of the k-th standing cell: the buffer is checked first
 abbrev pub cell_answer : Tables → ℕ → List ℕ → Result ℕ NoLine
 cell_answer tables k buffer =
-    if long buffer then seat_answer (slice_get tables.seats k) else Err (ShortBuffer short_buffer)
+    if takes_lines buffer then seat_answer (slice_get tables.seats k) else Err (ShortBuffer short_buffer)
 
 -- the buffer then
 abbrev pub cell_buffer : Tables → ℕ → List ℕ → List ℕ
-cell_buffer tables k buffer = if long buffer then seat_buffer buffer (slice_get tables.seats k) else buffer
+cell_buffer tables k buffer = if takes_lines buffer then seat_buffer buffer (slice_get tables.seats k) else buffer
 
 -- the line of what all standing cells cost
 abbrev pub costs_text : Price → Tables → List ℕ

@@ -11,7 +11,7 @@ mod tests;
 mod transfers;
 mod whole;
 
-pub use fault::{Fault, Refused};
+pub use fault::Fault;
 pub use run::{NoLine, Run, Step};
 pub use legalizing::{Ending, Failure, MOST_READ, legalize};
 pub use whole::{CarriedOut, carry_out};

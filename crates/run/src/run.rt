@@ -1,5 +1,5 @@
 // A run: a job that is carried out on a floor, one record after another.
-ghost use Rattle.std.specs.Prelude.{◌≡◌, ◌≤◌, List, ◌++◌, IfOk, IfSome, OnOk};
+ghost use Rattle.std.specs.Prelude.{◌≡◌, ◌≤◌, List, [], ◌++◌, IfOk, IfSome, OnOk};
 ghost use Rattle.std.specs.Option.{option_map};
 ghost use Rattle.floor.specs.State.{measure_of, tables_of};
 ghost use Rattle.floor.specs.Tables.{no_tables};
@@ -15,7 +15,7 @@ ghost use Rattle.run.specs.Turns.{told, turn, turn_events};
 
 use crate::fault::Fault;
 use floor::Floor;
-use job::{Job, MeasureName, Name, Reader};
+use job::{Job, MeasureName, Reader};
 use lines::{LEAST_BUFFER, Line, ShortBuffer};
 use measure::Measure;
 
@@ -23,7 +23,6 @@ mod looks;
 mod record;
 
 pub use looks::NoLine;
-use record::record_name;
 
 /// A job's reader, the floor on which its records are carried out, and the fault that ended the job, if one did.
 #[derive(Drop)]

@@ -84,12 +84,17 @@ fn put_cost(
 }
 
 // Adds a line.
-fn put_line(out: &mut Vec<u8>, line: Line<'_>) -> Result<(), AllocError>
-    ensures { Puts out.old result (text line.entry) out.new }
+fn put_line(
+    out: &mut Vec<u8>,
+    added: Result<(), AllocError>,
+    line: Line<'_>,
+) -> Result<(), AllocError>
+    ensures { (from : Vec ℕ heap.Global) (said : List ℕ) → Puts from added said out.old
+        → Puts from result (said ++ text line.entry) out.new }
 {
     let mut buffer = [0; LEAST_BUFFER];
     let length = line.write(&mut buffer).unwrap();
-    put(out, Ok(()), &buffer[..length])
+    put(out, added, &buffer[..length])
 }
 
 /// What is left of a job that was carried out.
@@ -127,7 +132,7 @@ pub fn carry_out(out: &mut Vec<u8>, bytes: &[u8]) -> CarriedOut
         Err(unread) => CarriedOut {
             floor: None,
             fault: Some(unread),
-            added: put_line(out, Fault::from(unread).line(unread.index, None)),
+            added: put_line(out, Ok(()), Fault::from(unread).line(unread.index, None)),
         },
     }
 }
