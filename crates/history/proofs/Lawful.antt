@@ -6,17 +6,23 @@ use mathlib.Core.List.{Permᴰ}
 use mathlib.Core.List.Permᴰ as perm
 use mathlib.Core.Path.{fun_ext}
 use Rattle.measure.specs.Costs.{Fair, Price}
+use Rattle.measure.specs.declared.Measure.{Ghosts}
 use Rattle.row.specs.Records.{row_ahead}
 use Rattle.floor.specs.Rows.{same_row}
 use Rattle.floor.specs.Calls.{where_is}
+use Rattle.floor.specs.Seats.{floor_cost}
+use Rattle.row.specs.Settings.{EveryPair}
+use Rattle.std.specs.Prelude.{IsPermutation}
+use Rattle.floor.specs.State.{measure_of, price_of, tables_of}
 use Rattle.floor.specs.Tables.{Tables, no_tables}
 use Rattle.floor.specs.declared.Seat.{Seat}
+use Rattle.floor.specs.declared.floor.Floor.{Floor}
 use Rattle.floor.proofs.Orders.{row_once, same_sym, ahead_not_same}
 use Rattle.history.specs.Events.{event_of, tables_then}
 use Rattle.history.specs.Histories.{Standing, rows_in, standing_in}
 use Rattle.history.specs.Law.{Law}
-use Rattle.history.specs.Lawful.{stands_ahead, seat_at, Obeys}
-use Rattle.history.specs.Settings.{Where, site_in}
+use Rattle.history.specs.Lawful.{stands_ahead, seat_at, Lawful}
+use Rattle.history.specs.Settings.{Where, site_in, cost}
 use Rattle.history.specs.declared.call.Call.{Call}
 use Rattle.history.specs.declared.call.Event.{Event}
 use Rattle.history.proofs.Grants.{answered_cost}
@@ -35,6 +41,15 @@ standing_back w (k ∷ ks) = ap (λ l. k ∷ l) (standing_back w ks)
 seats_back : (w : Where) (seats : List Seat) → AllByRecursion (λ s. site_in w s.cell.number ≡ s.site) seats → map (seat_at w) (map standing_of seats) ≡ seats
 seats_back w [] same = refl
 seats_back w (s ∷ seats) same = λ i. record { cell = s.cell; row = s.row; site = same.0 i } ∷ seats_back w seats same.1 i
+
+-- what a floor with a history is, by its price and its tables
+pub record Obeys (price : Price) (history : List Event) (t : Tables) : Type 0 where
+  pub law : Law price history (where_is t)
+  pub costs : floor_cost price t.seats ≡ cost price (standing_in history) (site_in (where_is t))
+  pub rows : IsPermutation (rows_in history) t.rows
+  pub rows_in_order : EveryPair (λ a b. row_ahead a b ≡ true) t.rows
+  pub seats : IsPermutation (map (seat_at (where_is t)) (standing_in history)) t.seats
+  pub seats_in_order : EveryPair (λ s r. stands_ahead s r ≡ true) t.seats
 
 -- what a floor with a history holds
 pub obeys_held : {f : Price} {history : List Event} {t : Tables} → Obeys f history t → Held history t
@@ -106,3 +121,32 @@ one_tables f history a b of_a of_b =
     let both : Permᴰ a.seats b.seats = Permᴰ.trans (perm.symm own) (subst (λ w. Permᴰ (map (seat_at w) ks) b.seats) (sym same) other) in
     let seats = one_order (λ x y. stands_ahead x y ≡ true) stands_once a.seats b.seats both of_a.seats_in_order of_b.seats_in_order in
     λ i. record { rows = rows i; seats = seats i }
+
+-- what a floor's type tells of its tables
+floor_known : {M : Type 0} {m : Ghosts M} (floor : Floor M m) → Known (price_of floor) (tables_of floor)
+floor_known floor = record { well = floor.well; few = floor.seats.few; set = floor.set }
+
+-- a floor has a history where its tables do ..
+lawful_of : {M : Type 0} {m : Ghosts M} {history : List Event} {floor : Floor M m} → Obeys (price_of floor) history (tables_of floor) → Lawful history floor
+lawful_of o = record { law = o.law; costs = o.costs; rows = o.rows; rows_in_order = o.rows_in_order; seats = o.seats; seats_in_order = o.seats_in_order }
+
+-- .. and back
+of_lawful : {M : Type 0} {m : Ghosts M} {history : List Event} {floor : Floor M m} → Lawful history floor → Obeys (price_of floor) history (tables_of floor)
+of_lawful o = record { law = o.law; costs = o.costs; rows = o.rows; rows_in_order = o.rows_in_order; seats = o.seats; seats_in_order = o.seats_in_order }
+
+-- an empty floor has the empty history
+pub lawful_empty : {M : Type 0} {m : Ghosts M} (floor : Floor M m) → tables_of floor ≡ no_tables → Lawful [] floor
+lawful_empty floor empty = lawful_of (obeys_empty (price_of floor) (tables_of floor) (floor_known floor) empty)
+
+-- two floors of one price that have one history hold the same
+pub one_floor : {M N : Type 0} {m : Ghosts M} {n : Ghosts N} (a : Floor M m) (b : Floor N n) (history : List Event) → price_of a ≡ price_of b → Lawful history a → Lawful history b → tables_of a ≡ tables_of b
+one_floor a b history price of_a of_b = one_tables (price_of b) history (tables_of a) (tables_of b) (subst (λ f. Obeys f history (tables_of a)) price (of_lawful of_a)) (of_lawful of_b)
+
+-- a floor with a history has, once a call is made, the history with the call's event
+pub lawful_step : {M : Type 0} {m : Ghosts M} (floor after : Floor M m) (call : Call) (event : Event) → Fair (price_of floor) → event ≡ event_of (price_of floor) (tables_of floor) call
+    → tables_of after ≡ tables_then (price_of floor) (tables_of floor) call → measure_of after ≡ measure_of floor → (history : List Event) → Lawful history floor → Lawful (event ∷ history) after
+lawful_step {m = m} floor after call event fair is tables same history lawful =
+    let price : price_of after ≡ price_of floor = ap m.price same in
+    lawful_of
+    (subst (λ f. Obeys f (event ∷ history) (tables_of after)) (sym price)
+    (obeys_step (price_of floor) fair history (tables_of floor) (tables_of after) call event (floor_known floor) (subst (λ f. Known f (tables_of after)) price (floor_known after)) is tables (of_lawful lawful)))

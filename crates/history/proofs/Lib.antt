@@ -6,6 +6,7 @@ pub mod Permuted
 pub mod Seated
 pub mod Steps
 pub mod Tables
+pub mod Told
 pub mod Lawful
 pub mod Worked
 pub mod Grants

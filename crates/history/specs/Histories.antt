@@ -1,11 +1,5 @@
--- What a history tells, by its calls and their answers alone: the calls made on a floor that began empty, the latest first.
---   call_of         the call of an event
---   refused         the refusal that an event's call was answered with, if it was refused
---   Standing        a cell that stands, and its row
---   rows_in         the rows that stand: a row stands once it is added
---   standing_in     the cells that stand: a cell stands from the placing that granted it until a withdrawal of its number is granted
---   decide          what the checks decide on a call: the first that fails, if one does
-use Rattle.std.specs.Prelude.{Bool, not, cond, ◌&&◌, List, [], ◌∷◌, filter, Ok, Err, Option, ◌==◌, nat_eq, nat_le, nat_lt}
+-- What a history tells, by its calls and their answers alone. The latest event comes first.
+use Rattle.std.specs.Prelude.{Bool, not, if◌then◌else◌, ◌&&◌, List, [], ◌∷◌, filter, Ok, Err, Option, ◌==◌, nat_eq, nat_le, nat_lt}
 use Rattle.row.specs.Checked.{checked}
 use Rattle.row.specs.declared.Cell.{Cell}
 use Rattle.row.specs.declared.Row.{Row}
@@ -45,12 +39,14 @@ row_of k = k.row
 
 -- whether a row lies on a line and has a site
 abbrev pub has_spot : Spot → Row → Bool
-has_spot spot row = row.line == spot.line && (nat_le row.left spot.site && nat_lt spot.site row.right)
+has_spot spot row =
+    row.line == spot.line && (nat_le row.left spot.site && nat_lt spot.site row.right)
 
--- the row that lies on a line and has a site; where none does, one that has no sites, so that no setting of a cell on it is legal
+-- the row that lies on a line and has a site; where none does, one that has no sites, so that no
+-- setting of a cell on it is legal
 abbrev pub row_at : List Row → Spot → Row
 row_at [] spot = record { line = 0; left = 0; right = 0 }
-row_at (row ∷ rows) spot = cond (has_spot spot row) row (row_at rows spot)
+row_at (row ∷ rows) spot = if has_spot spot row then row else row_at rows spot
 
 -- the cells with one more, on a row
 abbrev pub with_cell : Cell → Row → List Standing → List Standing
@@ -68,13 +64,15 @@ rows_after (Placed cell answer) rows = rows
 rows_after (Tried cell answer) rows = rows
 rows_after (Withdrawn number answer) rows = rows
 
--- what stands after an event: one more where a placing was granted, on the row that was answered; one fewer where a withdrawal was
+-- what stands after an event: one more where a placing was granted, on the row that was answered;
+-- one fewer where a withdrawal was
 abbrev pub standing_after : Event → List Row → List Standing → List Standing
 standing_after (Added row answer) rows standing = standing
 standing_after (Placed cell (Ok placing)) rows standing = with_placed rows standing cell placing
 standing_after (Placed cell (Err refusal)) rows standing = standing
 standing_after (Tried cell answer) rows standing = standing
-standing_after (Withdrawn number (Ok spot)) rows standing = filter (λ k. not (nat_eq k.cell.number number)) standing
+standing_after (Withdrawn number (Ok spot)) rows standing =
+    filter (λ k. not (nat_eq k.cell.number number)) standing
 standing_after (Withdrawn number (Err refusal)) rows standing = standing
 
 -- the rows that stand after a history
@@ -87,7 +85,8 @@ abbrev pub standing_in : List Event → List Standing
 standing_in [] = []
 standing_in (event ∷ earlier) = standing_after event (rows_in earlier) (standing_in earlier)
 
--- what the checks decide on a call, from what stands before it: the refusal of the first that fails, or none
+-- what the checks decide on a call, from what stands before it: the refusal of the first that fails,
+-- or none
 abbrev pub decide : List Row → List Standing → Call → Option Refusal
 decide rows standing (AddRow row) = add_refusal rows row
 decide rows standing (Place cell) = place_refusal_by cell_of row_of rows standing cell

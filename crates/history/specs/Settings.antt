@@ -1,9 +1,4 @@
 -- Settings of a floor: a site for each number, legal and in wanted order, and what they cost.
---   Where           what where_is answers for each number
---   site_in         the setting that such answers are
---   Legal           every cell lies within its row, and no two cells of a row share a site
---   InWantedOrder   on each row the cell that is wanted before another has the smaller site
---   cost            the sum over the standing cells of the cost of the site and of the line
 use Rattle.std.specs.Prelude.{◌≡◌, ℕ, true, List, Ok, Err, Result}
 use Rattle.std.specs.List.{AllByRecursion}
 use Rattle.measure.specs.Costs.{Price}
@@ -43,13 +38,15 @@ pub record Legal (standing : List Standing) (at : ℕ → ℕ) : Type 0 where
 
 -- of any two cells of a row, the one that is wanted before the other has the smaller site
 abbrev pub InWantedOrder : List Standing → (ℕ → ℕ) → Type 0
-InWantedOrder standing at = EveryPair (λ k l. OnOneRow k l → Rising (placed at k) (placed at l)) standing
+InWantedOrder standing at =
+    EveryPair (λ k l. OnOneRow k l → Rising (placed at k) (placed at l)) standing
 
 -- a legal setting in wanted order
 pub record Setting (standing : List Standing) (at : ℕ → ℕ) : Type 0 where
   pub legal : Legal standing at
   pub in_order : InWantedOrder standing at
 
--- what a setting costs: for each standing cell, its site against the wanted site, and its row's line against the wanted line
+-- what a setting costs: for each standing cell, its site against the wanted site, and its row's line
+-- against the wanted line
 abbrev pub cost : Price → List Standing → (ℕ → ℕ) → ℕ
 cost price standing at = costs_by cell_of row_of (λ k. at k.cell.number) price standing

@@ -1,8 +1,4 @@
 -- The law leaves no slack: it is a whole definition of the right floor.
---   OneSetting    what stands decides what where_is answers, so that a call that leaves what stands leaves every answer
---   OneWhere      there is one answer of where_is for each number
---   OneAnswer     there is one answer to each call
---   NoSlack       all of these, whatever the measure
 use Rattle.std.specs.Prelude.{◌≡◌, ℕ, List, ◌∷◌}
 use Rattle.measure.specs.Costs.{Price}
 use Rattle.history.specs.Histories.{Standing, call_of}
@@ -12,15 +8,18 @@ use Rattle.history.specs.declared.call.Event.{Event}
 
 -- two answers of where_is that both hold while the same cells stand agree at every number
 abbrev pub OneSetting : Price → Type 0
-OneSetting price = (standing : List Standing) (w v : Where) → Holds price standing w → Holds price standing v → (number : ℕ) → w number ≡ v number
+OneSetting price = (standing : List Standing) (w v : Where) → Holds price standing w
+    → Holds price standing v → (number : ℕ) → w number ≡ v number
 
 -- two answers of where_is that both obey the law for one history agree at every number
 abbrev pub OneWhere : Price → Type 0
-OneWhere price = (history : List Event) (w v : Where) → Law price history w → Law price history v → (number : ℕ) → w number ≡ v number
+OneWhere price = (history : List Event) (w v : Where) → Law price history w
+    → Law price history v → (number : ℕ) → w number ≡ v number
 
 -- two answers to one call that both obey the law after one history are equal
 abbrev pub OneAnswer : Price → Type 0
-OneAnswer price = (history : List Event) (d e : Event) (w v : Where) → call_of d ≡ call_of e → Law price (d ∷ history) w → Law price (e ∷ history) v → d ≡ e
+OneAnswer price = (history : List Event) (d e : Event) (w v : Where) → call_of d ≡ call_of e
+    → Law price (d ∷ history) w → Law price (e ∷ history) v → d ≡ e
 
 -- whatever the measure, fair or not
 pub record NoSlack : Type 0 where

@@ -26,9 +26,9 @@ pub record Stand : Type 0 where
   pub spot : Spot
 
 -- What a case says. `sets`: `set` fills in these sites and answers this cost. `refuses`: it refuses
--- with this number. `costs`: cells at these sites cost this. `leaves`: once these calls are made on an
--- empty floor, cells stand so, and the floor costs this. `places`: once these calls are made, placing
--- this cell answers this.
+-- with this number. `costs`: cells at these sites cost this. `leaves`: once these calls are made on
+-- an empty floor, cells stand so, and the floor costs this. `places`: once these calls are made,
+-- placing this cell answers this.
 pub data Check : Type 0 where
   sets : MeasureName → Row → List Cell → List ℕ → ℕ → Check
   refuses : MeasureName → Row → List Cell → ℕ → Check
@@ -82,7 +82,12 @@ row left right = row_on 0 left right
 
 -- a cell of a number, wanted on line 0 at a site, of a width and of weight 1
 abbrev pub cell : ℕ → ℕ → ℕ → Cell
-cell number site width = record { number = number; wanted = record { line = 0; site = site }; width = width; weight = 1 }
+cell number site width = record {
+  number = number;
+  wanted = record { line = 0; site = site };
+  width = width;
+  weight = 1;
+}
 
 -- a cell with another weight
 abbrev pub weighing : ℕ → Cell → Cell
@@ -149,17 +154,18 @@ twelve =
     ∷ both Squared (row 0 10) (cell 1 0 3 ∷ cell 2 3 3 ∷ []) (0 ∷ 3 ∷ []) 0
     -- 8: row 0 to 20, 0/4, 1/4 and 7/2: sites 0, 4 and 8, cost 10
     ∷ both Squared (row 0 20) (cell 1 0 4 ∷ cell 2 1 4 ∷ cell 3 7 2 ∷ []) (0 ∷ 4 ∷ 8 ∷ []) 10
-    -- 9: row 0 to 10, cells 7 and 5, both 2/2: cell 5 at 1 and cell 7 at 3, cost 2; `set` takes them
-    -- in wanted order, 5 before 7
+    -- 9: row 0 to 10, cells 7 and 5, both 2/2: cell 5 at 1 and cell 7 at 3, cost 2; `set` takes
+    -- them in wanted order, 5 before 7
     ∷ (sets Squared (row 0 10) (cell 5 2 2 ∷ cell 7 2 2 ∷ []) (1 ∷ 3 ∷ []) 2
     ∷ leaves Squared (filling (row 0 10) (cell 7 2 2 ∷ cell 5 2 2 ∷ [])) (at 5 0 1 ∷ at 7 0 3 ∷ []) 2
     ∷ [])
-    -- 10: row 0 to 10 on line 0, 3/4 placed, then row 0 to 10 on line 1: placing 4/2 goes to line 1,
-    -- site 4, rise 1
+    -- 10: row 0 to 10 on line 0, 3/4 placed, then row 0 to 10 on line 1: placing 4/2 goes to
+    -- line 1, site 4, rise 1
     ∷ placing_after Squared
     (AddRow (row_on 0 0 10) ∷ Place (cell 1 3 4) ∷ AddRow (row_on 1 0 10) ∷ [])
     (cell 2 4 2) (to 1 4 1) (at 1 0 3 ∷ at 2 1 4 ∷ []) 1
-    -- 11: rows 0 to 10 on lines 0 and 2: placing 3/4 with wanted line 1 goes to line 0, site 3, rise 1
+    -- 11: rows 0 to 10 on lines 0 and 2: placing 3/4 with wanted line 1 goes to line 0, site 3,
+    -- rise 1
     ∷ placing_after Squared (AddRow (row_on 0 0 10) ∷ AddRow (row_on 2 0 10) ∷ [])
     (wanted_on 1 (cell 1 3 4)) (to 0 3 1) (at 1 0 3 ∷ []) 1
     -- 12: from 3, the second cell withdrawn: the first at 3, cost 0
