@@ -1,2 +1,3 @@
+pub mod Appended
 pub mod Fronts
 pub mod Lengths
