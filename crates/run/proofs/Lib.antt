@@ -1,5 +1,7 @@
 pub mod Cells
 pub mod Turns
-pub mod PutsLemmas
+pub mod Jobs
+pub mod Enough
+pub mod Putting
 pub mod Rests
 pub mod StreamBytes

@@ -9,7 +9,7 @@ use Rattle.measure.specs.Costs.{Price}
 use Rattle.measure.specs.declared.Measure.{Ghosts}
 use Rattle.measure.specs.declared.name.MeasureName.{MeasureName}
 use Rattle.run.specs.Parts.{rest_events, rest_fault, rest_lines, rest_tables}
-use Rattle.run.specs.Puts.{Puts}
+use Rattle.lines.specs.Appended.{Appends}
 use Rattle.run.specs.State.{State, floor_of, measure_in, price_in, state}
 use Rattle.run.specs.Turns.{Turn, turn, turn_events}
 use Rattle.run.specs.declared.run.Run.{Run}
@@ -26,7 +26,7 @@ module _ {m : Ghosts MeasureName} (out : Buffer) (run : Run MeasureName m) where
   pub record SoFar (added : Answer) (to : Buffer) (now : Run MeasureName m) : Type 0 where
     pub said : List ℕ
     pub done : List Event
-    pub puts : Puts out added said to
+    pub puts : Appends out added said to
     pub lines : said ++ rest_lines (price_in run) (state now) ≡ rest_lines (price_in run) (state run)
     pub tables : rest_tables (price_in run) (state now) ≡ rest_tables (price_in run) (state run)
     pub fault : rest_fault (state now) ≡ rest_fault (state run)
@@ -36,7 +36,7 @@ module _ {m : Ghosts MeasureName} (out : Buffer) (run : Run MeasureName m) where
 
   -- at the end: all of it is put, and has come of the calls
   pub record AtLast (added : Answer) (to : Buffer) (last : Run MeasureName m) : Type 0 where
-    pub lines : Puts out added (rest_lines (price_in run) (state run)) to
+    pub lines : Appends out added (rest_lines (price_in run) (state run)) to
     pub tables : (state last).tables ≡ rest_tables (price_in run) (state run)
     pub fault : (state last).told ≡ rest_fault (state run)
     pub law : (history : List Event) → Lawful history (floor_of run) → Lawful (reverse (rest_events (price_in run) (state run)) ++ history) (floor_of last)
@@ -47,7 +47,7 @@ module _ {m : Ghosts MeasureName} (out : Buffer) (run : Run MeasureName m) where
 
   -- one step more
   pub so_far_more : (added put : Answer) (to grown : Buffer) (now then : Run MeasureName m) (line : List ℕ) (t : Turn) → (so_far : SoFar added to now)
-      → turn (price_in now) (state now) ≡ Some t → state then ≡ t.after → line ≡ t.said.line → Puts out put (so_far.said ++ line) grown
+      → turn (price_in now) (state now) ≡ Some t → state then ≡ t.after → line ≡ t.said.line → Appends out put (so_far.said ++ line) grown
       → StepLaw (price_in now) now then → measure_in then ≡ measure_in now → SoFar put grown then
   so_far_more added put to grown now then line t so_far is after line_is puts law same =
       let price = price_in run in
@@ -90,7 +90,7 @@ module _ {m : Ghosts MeasureName} (out : Buffer) (run : Run MeasureName m) where
       let ends = finished price s none in
       let done : so_far.done ≡ rest_events price (state run) = sym (append-nil so_far.done) ∙ ap (λ es. so_far.done ++ es) (sym ends.events) ∙ so_far.events in
       record {
-        lines = subst (λ bytes. Puts out added bytes to) (sym (append-nil so_far.said) ∙ ap (λ bytes. so_far.said ++ bytes) (sym ends.lines) ∙ so_far.lines) so_far.puts;
+        lines = subst (λ bytes. Appends out added bytes to) (sym (append-nil so_far.said) ∙ ap (λ bytes. so_far.said ++ bytes) (sym ends.lines) ∙ so_far.lines) so_far.puts;
         tables = ap (λ (u : State). u.tables) stays ∙ sym ends.tables ∙ so_far.tables;
         fault = ap (λ (u : State). u.told) stays ∙ sym ends.fault ∙ so_far.fault;
         law = λ history lawful.

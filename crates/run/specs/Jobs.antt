@@ -8,7 +8,7 @@ use Rattle.history.specs.Lawful.{Lawful}
 use Rattle.history.specs.declared.call.Event.{Event}
 use Rattle.job.specs.Opening.{opening}
 use Rattle.job.specs.Records.{records_of}
-use Rattle.run.specs.Puts.{Puts}
+use Rattle.lines.specs.Appended.{Appends}
 use Rattle.measure.specs.declared.Measure.{Ghosts}
 use Rattle.measure.specs.declared.name.MeasureName.{MeasureName}
 use Rattle.run.specs.Texts.{calls_in, lines_with}
@@ -17,7 +17,7 @@ use Rattle.run.specs.Texts.{calls_in, lines_with}
 -- ask for, and they are the history of the floor that is left; so it obeys the law, and the lines at the end tell of it.
 pub record JobLaw {E : Type 0} {m : Ghosts MeasureName} (job : List ℕ) (before : Vec ℕ Global) (added : Result (Unit {0}) E) (after : Vec ℕ Global) (floor : Floor MeasureName m) : Type 0 where
   pub events : List Event
-  pub printed : Puts before added (lines_with (price_of floor) job events (tables_of floor)) after
+  pub printed : Appends before added (lines_with (price_of floor) job events (tables_of floor)) after
   pub calls : map call_of events ≡ calls_in (records_of job)
   pub lawful : Lawful (reverse events) floor
   pub measure : opening job ≡ Ok (measure_of floor)

@@ -2,7 +2,6 @@ pub mod Complaints
 pub mod Faults
 pub mod Legalized
 pub mod Parts
-pub mod Puts
 pub mod Started
 pub mod State
 pub mod Steps

@@ -7,7 +7,7 @@ ghost use Rattle.job.specs.Records.{fault_of};
 ghost use Rattle.lines.specs.Texts.{text};
 ghost use Rattle.run.specs.Jobs.{AtEnd};
 ghost use Rattle.run.specs.Parts.{rest_events, rest_fault, rest_lines, rest_tables};
-ghost use Rattle.run.specs.Puts.{Puts};
+ghost use Rattle.lines.specs.Appended.{Appends};
 ghost use Rattle.run.specs.State.{floor_of, measure_in, price_in, state};
 ghost use Rattle.run.specs.Steps.{costs_text};
 ghost use Rattle.run.specs.Texts.{cell_lines, job_text};
@@ -16,26 +16,27 @@ use crate::fault::Fault;
 use crate::run::Run;
 use floor::Floor;
 use job::{Job, MeasureName};
-use lines::{LEAST_BUFFER, Line};
+use lines::{LEAST_BUFFER, append};
 use row::MOST_CELLS;
 use std::alloc::AllocError;
 
 // Adds bytes, unless those before them could not be added.
+#[tactic(auto, using(crate::proofs::Putting::put_none, crate::proofs::Putting::put_more))]
 fn put(
     out: &mut Vec<u8>,
     added: Result<(), AllocError>,
     bytes: &[u8],
 ) -> Result<(), AllocError>
-    ensures { (from : Vec ℕ heap.Global) (said : List ℕ) → Puts from added said out.old
-        → Puts from result (said ++ bytes.now) out.new }
+    ensures { (from : Vec ℕ heap.Global) (said : List ℕ) → Appends from added said out.old
+        → Appends from result (said ++ bytes.now) out.new }
 {
     added?;
-    out.extend_from_slice(bytes)
+    append(out, bytes)
 }
 
 // Carries out the records that are left, and adds a line for each. They are carried out also where a line could not be added.
 fn put_records(out: &mut Vec<u8>, run: &mut Run<'_, MeasureName>) -> Result<(), AllocError>
-    ensures lines { Puts out.old result (rest_lines (price_in run.old) (state run.old)) out.new }
+    ensures lines { Appends out.old result (rest_lines (price_in run.old) (state run.old)) out.new }
     ensures tables { (state run.new).tables ≡ rest_tables (price_in run.old) (state run.old) }
     ensures fault { (state run.new).told ≡ rest_fault (state run.old) }
     ensures law { (history : List Event) → Lawful history (floor_of run.old)
@@ -56,8 +57,8 @@ fn put_cells(
     mut added: Result<(), AllocError>,
     run: &Run<'_, MeasureName>,
 ) -> Result<(), AllocError>
-    ensures { (from : Vec ℕ heap.Global) (said : List ℕ) → Puts from added said out.old
-        → Puts from result (said ++ cell_lines (state run.now).tables.seats) out.new }
+    ensures { (from : Vec ℕ heap.Global) (said : List ℕ) → Appends from added said out.old
+        → Appends from result (said ++ cell_lines (state run.now).tables.seats) out.new }
 {
     let mut buffer = [0; LEAST_BUFFER];
     for k in 0..MOST_CELLS {
@@ -75,25 +76,11 @@ fn put_cost(
     added: Result<(), AllocError>,
     run: &Run<'_, MeasureName>,
 ) -> Result<(), AllocError>
-    ensures { (from : Vec ℕ heap.Global) (said : List ℕ) → Puts from added said out.old
-        → Puts from result (said ++ costs_text (price_in run.now) (state run.now).tables) out.new }
+    ensures { (from : Vec ℕ heap.Global) (said : List ℕ) → Appends from added said out.old
+        → Appends from result (said ++ costs_text (price_in run.now) (state run.now).tables) out.new }
 {
     let mut buffer = [0; LEAST_BUFFER];
     let length = run.cost_line(&mut buffer).unwrap();
-    put(out, added, &buffer[..length])
-}
-
-// Adds a line.
-fn put_line(
-    out: &mut Vec<u8>,
-    added: Result<(), AllocError>,
-    line: Line<'_>,
-) -> Result<(), AllocError>
-    ensures { (from : Vec ℕ heap.Global) (said : List ℕ) → Puts from added said out.old
-        → Puts from result (said ++ text line.entry) out.new }
-{
-    let mut buffer = [0; LEAST_BUFFER];
-    let length = line.write(&mut buffer).unwrap();
     put(out, added, &buffer[..length])
 }
 
@@ -112,7 +99,7 @@ pub struct CarriedOut {
 /// cost; of a job that cannot be opened only the line that says so. All records are carried out, also where a line could
 /// not be added for want of memory. The floor that is left obeys the law.
 pub fn carry_out(out: &mut Vec<u8>, bytes: &[u8]) -> CarriedOut
-    ensures lines { Puts out.old result.added (job_text bytes.now) out.new }
+    ensures lines { Appends out.old result.added (job_text bytes.now) out.new }
     ensures fault { result.fault ≡ fault_of bytes.now }
     ensures law { AtEnd bytes.now out.old result.added out.new result.floor }
 {
@@ -132,7 +119,7 @@ pub fn carry_out(out: &mut Vec<u8>, bytes: &[u8]) -> CarriedOut
         Err(unread) => CarriedOut {
             floor: None,
             fault: Some(unread),
-            added: put_line(out, Ok(()), Fault::from(unread).line(unread.index, None)),
+            added: Fault::from(unread).line(unread.index, None).append_to(out),
         },
     }
 }
