@@ -13,7 +13,7 @@ use Rattle.job.specs.declared.record.Fault.{Fault}
 use Rattle.lines.specs.Texts.{newline}
 use Rattle.run.specs.Complaints.{complaint_about, complaint_line, complaint_text, status_of}
 use Rattle.run.specs.Legalized.{LacksRoom, LeavesOut, complaint, status}
-use Rattle.run.specs.Streams.{WritesPart}
+use Rattle.run.specs.Streams.{Fetched, WritesPart}
 use Rattle.run.specs.Texts.{fault_line, job_text, opened_text}
 use Rattle.run.specs.declared.complaint.Complaint.{Complaint}
 use Rattle.run.specs.declared.complaint.Complaint.TheVariants.{Unread}
@@ -71,27 +71,27 @@ known : (old : Option (List ℕ)) (job : List ℕ) (P : List ℕ → Type 0) →
 known None job P like each = tt
 known (Some all) job P like each = each all like
 
-module _ (old new : Option (List ℕ)) (job : List ℕ) (read : Consumes old new job) (end : length job < 65536 → IsAtEnd new) where
+module _ (old new : Option (List ℕ)) (job : List ℕ) (fetched : Fetched 65536 old new job) where
   pub lines_known : (r : Result ExitCode Failure) (out to : Option (List ℕ)) → OnOk r (Appends out to (job_text job)) → OnOk r (IfSome old (λ all. Appends out to (job_text all)))
-  lines_known (Ok code) out to of_job = known old job _ (alike old new job read end) (λ all like. subst (Appends out to) like.lines of_job)
+  lines_known (Ok code) out to of_job = known old job _ (alike old new job fetched.consumed fetched.ended) (λ all like. subst (Appends out to) like.lines of_job)
   lines_known (Err why) out to of_job = tt
 
   pub said_known : (r : Result ExitCode Failure) (out to : Option (List ℕ)) → OnOk r (Appends out to (complaint job)) → OnOk r (IfSome old (λ all. Appends out to (complaint all)))
-  said_known (Ok code) out to of_job = known old job _ (alike old new job read end) (λ all like. subst (Appends out to) like.said of_job)
+  said_known (Ok code) out to of_job = known old job _ (alike old new job fetched.consumed fetched.ended) (λ all like. subst (Appends out to) like.said of_job)
   said_known (Err why) out to of_job = tt
 
   pub status_known : (r : Result ExitCode Failure) → IfOk r (λ code. exit_status code ≡ status job) → IfOk r (λ code. IfSome old (λ all. exit_status code ≡ status all))
-  status_known (Ok code) of_job = known old job _ (alike old new job read end) (λ all like. of_job ∙ like.status)
+  status_known (Ok code) of_job = known old job _ (alike old new job fetched.consumed fetched.ended) (λ all like. of_job ∙ like.status)
   status_known (Err why) of_job = tt
 
   pub failed_known : (r : Result ExitCode Failure) (out to : Option (List ℕ)) → IfErr r (LeavesOut (Some job) out to) → IfErr r (LeavesOut old out to)
   failed_known (Ok code) out to of_job = tt
   failed_known (Err (Unfetched why)) out to of_job = of_job
-  failed_known (Err (Unwritten why)) out to of_job = known old job _ (alike old new job read end) (λ all like. subst (WritesPart out to) like.lines of_job)
+  failed_known (Err (Unwritten why)) out to of_job = known old job _ (alike old new job fetched.consumed fetched.ended) (λ all like. subst (WritesPart out to) like.lines of_job)
   failed_known (Err NoMemory) out to of_job = of_job
 
   pub memory_known : (r : Result ExitCode Failure) (said : Vec ℕ Global) → IfErr r (LacksRoom (Some job) said) → IfErr r (LacksRoom old said)
   memory_known (Ok code) said of_job = tt
   memory_known (Err (Unfetched why)) said of_job = tt
   memory_known (Err (Unwritten why)) said of_job = tt
-  memory_known (Err NoMemory) said of_job = known old job _ (alike old new job read end) (λ all like. subst (λ text. vec_capacity said < length text) like.lines of_job)
+  memory_known (Err NoMemory) said of_job = known old job _ (alike old new job fetched.consumed fetched.ended) (λ all like. subst (λ text. vec_capacity said < length text) like.lines of_job)

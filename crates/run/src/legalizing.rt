@@ -122,7 +122,6 @@ fn answer<W: Write, E: Write>(
 }
 
 /// Fetches a job and answers it.
-#[tactic(auto, using(crate::proofs::Enough::lines_known, crate::proofs::Enough::said_known, crate::proofs::Enough::status_known, crate::proofs::Enough::failed_known, crate::proofs::Enough::memory_known))]
 fn fetch_and_answer<R: Read, W: Write, E: Write>(
     said: &mut Vec<u8>,
     input: &mut R,

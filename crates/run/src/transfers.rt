@@ -1,8 +1,8 @@
 // Fetching what a reader gives, and handing bytes to a writer.
-ghost use Rattle.std.specs.Prelude.{◌≡◌, ◌<◌, ◌≤◌, IfOk, OnOk, length, take};
+ghost use Rattle.std.specs.Prelude.{IfOk, OnOk, length, take};
 ghost use Rattle.std.specs.Io.{ReadsAtMost};
-ghost use Rattle.std.specs.Io.KnownBytes.{Appends, Consumes, IsAtEnd};
-ghost use Rattle.run.specs.Streams.{ReadsUpTo, WritesPart};
+ghost use Rattle.std.specs.Io.KnownBytes.{Appends};
+ghost use Rattle.run.specs.Streams.{Fetched, ReadsUpTo, WritesPart};
 
 use crate::streams::{ReadFailure, WriteFailure, read_some, write_some};
 use std::io::{Read, Write};
@@ -10,8 +10,8 @@ use std::io::{Read, Write};
 /// Reads until the input ends or the room is full: how many bytes at the front of `room` were read.
 pub(crate) fn fetch<R: Read>(input: &mut R, room: &mut [u8]) -> Result<usize, ReadFailure>
     ensures bound { ReadsAtMost result room.new }
-    ensures bytes { IfOk result (λ count. Consumes (R.remaining input.old) (R.remaining input.new) (take count room.new)) }
-    ensures whole { IfOk result (λ count. count < length room.old → IsAtEnd (R.remaining input.new)) }
+    ensures fetched { IfOk result (λ count.
+        Fetched (length room.old) (R.remaining input.old) (R.remaining input.new) (take count room.new)) }
     ensures few { ReadsUpTo (length room.old) (R.remaining input.old) (R.remaining input.new) }
 {
     let mut filled = 0;
