@@ -1,5 +1,5 @@
 -- A cell leaves a floor: what holds of the seats that are left, and that the floor stays well formed and set once the row is set again.
-use Rattle.std.proofs.Common.{◌≡◌, ℕ, ◌≤◌, Bool, true, false, cond, not, ◌&&◌, eqb, List, [], ◌∷◌, length, filter, Some, None, Option, sym, refl, ap, ◌∙◌, subst, arith}
+use Rattle.std.proofs.Common.{◌≡◌, ℕ, ◌<◌, ◌≤◌, Bool, true, false, cond, not, ◌&&◌, eqb, List, [], ◌∷◌, length, filter, Some, None, Ok, Option, slice_get, remove, sym, refl, ap, ◌∙◌, subst, arith}
 use Rattle.std.proofs.ByRecursion.{All-weaker, all_kept_by}
 use Rattle.std.proofs.lemmas.Bool.{and_parts, and_from, both_ways, eqb-true, eq-eqb, false_from_ne_true, not_from_false}
 use Rattle.std.proofs.lemmas.List.Sums.{length-filter, count_by-le-length}
@@ -9,13 +9,14 @@ use Rattle.std.specs.Option.{option_map, ok_or}
 use Rattle.measure.specs.Costs.{Fair, Price}
 use Rattle.row.specs.Stack.{Ready}
 use Rattle.row.specs.declared.Row.{Row}
+use Rattle.row.specs.declared.Spot.{Spot}
 use Rattle.table.proofs.Inserted.{Pairs}
 use Rattle.floor.specs.Calls.{seat_of, spot, where_is, without, outcome_without, withdraw}
 use Rattle.floor.specs.Formed.{every_pair, rows_formed, seat_formed, seats_apart, formed}
 use Rattle.floor.specs.Rows.{same_row}
-use Rattle.floor.specs.Seats.{on_row, seats_on, cells_on, settled}
+use Rattle.floor.specs.Seats.{on_row, seats_on, seat_index, cells_on, settled}
 use Rattle.floor.specs.Settled.{Settled}
-use Rattle.floor.specs.Tables.{Tables}
+use Rattle.floor.specs.Tables.{Tables, Outcome}
 use Rattle.floor.specs.declared.Refusal.TheVariants.{NotStanding}
 use Rattle.floor.specs.declared.Seat.{Seat}
 use Rattle.floor.proofs.Joining.{standing_fitting, set_formed, row_ready}
@@ -24,6 +25,7 @@ use Rattle.floor.proofs.Kept.{pairs_kept, kept_past}
 use Rattle.floor.proofs.Listed.{Standing, Differ, formed_listed}
 use Rattle.floor.proofs.Orders.{same_sym}
 use Rattle.floor.proofs.Placed.{found_has}
+use Rattle.floor.proofs.Removed.{found_at, none_from}
 use Rattle.floor.proofs.Tests.{every_all, all_every, pairs_all, all_pairs}
 
 -- a floor with some of its seats is well formed
@@ -88,21 +90,32 @@ module _ (rows : List Row) (seats : List Seat) (well : formed rows seats ≡ tru
       (false_from_ne_true (eqb t.cell.number number) (λ is. both_ways (same_row r s.row) other (same_sym s.row r (subst (λ u. on_row r u ≡ true) (own is) on)))))
       seats (found_only number seats s (formed_listed rows seats well).differ found))
 
--- what is known of a seat that is found by its number
-pub record Found (f : Price) (t : Tables) (number : ℕ) (s : Seat) : Type 0 where
-  pub ready : Ready s.row (cells_on s.row (without s.cell.number t.seats))
-  pub is : outcome_without f t number (Some s) ≡ withdraw f t number
-  pub after : settled f s.row (without s.cell.number t.seats) ≡ settled f s.row (without number t.seats)
+-- a number that is at no place is not found
+pub not_found : (number : ℕ) (seats : List Seat) → seat_index number seats ≡ None → seat_of number seats ≡ None
+not_found number seats e = none_from number seats 0 e
+
+-- what is known of the seat at the place where the program finds a number
+pub record Found (f : Price) (t : Tables) (number at : ℕ) : Type 0 where
+  pub within : at < length t.seats
+  pub ready : (s : Seat) → slice_get t.seats at ≡ Some s → Ready s.row (cells_on s.row (remove t.seats at))
+  pub is : (s : Seat) → slice_get t.seats at ≡ Some s
+      → ◌≡◌ {A = Outcome Spot} (record { answer = Ok (spot s); tables = record { rows = t.rows; seats = settled f s.row (remove t.seats at) } }) (withdraw f t number)
 
 -- from what the program looked up
-pub found_known : (f : Price) (t : Tables) (number : ℕ) (s : Seat) {looked : Option Seat} → formed t.rows t.seats ≡ true → length t.seats ≤ 1024 → looked ≡ seat_of number t.seats → looked ≡ Some s → Found f t number s
-found_known f t number s well few finds some =
-    let found = sym finds ∙ some in
-    let number_is = found_number number t.seats s found in
+pub found_known : (f : Price) (t : Tables) (number at : ℕ) {looked : Option ℕ} → formed t.rows t.seats ≡ true → length t.seats ≤ 1024 → looked ≡ seat_index number t.seats → looked ≡ Some at → Found f t number at
+found_known f t number at {looked} well few finds some =
+    let it = found_at number t.seats at (formed_listed t.rows t.seats well).differ (sym finds ∙ some) in
+    let s : Seat = it.0 in
+    let known = it.1 in
+    let number_is = found_number number t.seats s known.found in
+    let one : (u : Seat) → slice_get t.seats at ≡ Some u → u ≡ s = λ u is. same_Some u s (sym is ∙ known.is) in
     record {
-      ready = without_ready t.rows t.seats well s.cell.number s (subst (λ n. seat_of n t.seats ≡ Some s) (sym number_is) found) few;
-      is = ap (outcome_without f t number) (sym found);
-      after = ap (λ n. settled f s.row (without n t.seats)) number_is;
+      within = known.within;
+      ready = λ u is. subst (λ v. Ready v.row (cells_on v.row (remove t.seats at))) (sym (one u is))
+          (subst (λ l. Ready s.row (cells_on s.row l)) (sym known.left) (without_ready t.rows t.seats well number s known.found few));
+      is = λ u is.
+          (λ i. record { answer = Ok (spot (one u is i)); tables = record { rows = t.rows; seats = settled f (one u is i).row (known.left i) } })
+          ∙ ap (outcome_without f t number) (sym known.found);
     }
 
 module _ (f : Price) (fair : Fair f) (t : Tables) (well : formed t.rows t.seats ≡ true) (number : ℕ) where

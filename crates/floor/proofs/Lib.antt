@@ -10,13 +10,13 @@ pub mod Kept
 pub mod Keeping
 pub mod Known
 pub mod Leaving
-pub mod Leasts
 pub mod Listed
 pub mod Moved
 pub mod Orders
 pub mod Placed
 pub mod Ready
 pub mod Refused
+pub mod Removed
 pub mod Resited
 pub mod Risen
 pub mod Rising

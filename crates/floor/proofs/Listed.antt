@@ -1,17 +1,17 @@
 -- What `formed` says, in two parts: of rows and seats whatever the sites, and of the sites, row by row.
-use Rattle.std.proofs.Common.{◌≡◌, ℕ, zero, suc, ◌+◌, ◌<◌, ◌≤◌, Bool, true, false, not, ◌&&◌, ◌||◌, eqb, leb, List, [], ◌∷◌, length, get_or, is_some, None, sym, refl, ◌∙◌, subst, ⊎_elim, arith}
+use Rattle.std.proofs.Common.{◌≡◌, ℕ, zero, suc, ◌+◌, ◌<◌, ◌≤◌, Bool, true, false, not, ◌&&◌, ◌||◌, eqb, leb, ltb, List, [], ◌∷◌, length, get_or, is_some, None, sym, refl, ◌∙◌, subst, ⊎_elim, arith}
 use Rattle.std.proofs.ByRecursion.{All-weaker, all_kept_by, kept_by_passes}
-use Rattle.std.proofs.lemmas.Bool.{and_parts, and_from, or_cases, or_left, or_right, leb-true, le-leb, eqb-true, eq-eqb, not-true, not_from_false, both_ways, cases_Bool}
+use Rattle.std.proofs.lemmas.Bool.{and_parts, and_from, or_cases, or_left, or_right, leb-true, le-leb, lt-ltb, eqb-true, eq-eqb, not-true, not_from_false, both_ways, cases_Bool}
 use Rattle.std.specs.List.{AllByRecursion, list_all, list_any}
 use Rattle.row.specs.Records.{cell_fault, row_fault, row_ahead}
 use Rattle.row.specs.Stack.{Passes}
 use Rattle.row.specs.declared.Row.{Row}
-use Rattle.row.proofs.Ranges.{RangedRow, ranged_row}
+use Rattle.row.proofs.Ranges.{RangedRow, ranged_row, ranged}
 use Rattle.table.specs.Order.{Ordered}
 use Rattle.table.proofs.Inserted.{Pairs}
 use Rattle.floor.specs.Formed.{every_pair, is_row_of, rows_formed, seat_formed, seats_apart, formed}
 use Rattle.floor.specs.Rows.{same_row, share}
-use Rattle.floor.specs.Seats.{on_row, seat_ahead, seats_on}
+use Rattle.floor.specs.Seats.{on_row, seat_ahead, stands_ahead, seats_on}
 use Rattle.floor.specs.declared.Seat.{Seat}
 use Rattle.floor.proofs.Kept.{all_with, pairs_with, pairs_weaker, pairs_both, pairs_kept, pairs_first, pairs_others, kept_passing, kept_alike}
 use Rattle.floor.proofs.Orders.{same_refl, same_trans, same_sym}
@@ -159,6 +159,19 @@ two_seats s t ahead differ clear =
     (λ no. or_left (not (on_row t.row s)) (leb (s.site + s.cell.width) t.site) (not_from_false (on_row t.row s) no))
     (cases_Bool (on_row t.row s))))
 
+-- a seat ahead of another stands ahead of it
+stand_two : (s t : Seat) → Passes s.cell → seats_apart s t ≡ true → stands_ahead s t ≡ true
+stand_two s t pass e =
+    let two = seats_two s t e in
+    let wide = (ranged s.cell pass).some_width in
+    ⊎_elim
+    (λ first. or_left (row_ahead s.row t.row) (on_row t.row s && ltb s.site t.site) first)
+    (λ own.
+    let on = (and_parts (on_row t.row s) _ own).0 in
+    let clear = two.2 on in
+    or_right (row_ahead s.row t.row) (on_row t.row s && ltb s.site t.site) (and_from (on_row t.row s) (ltb s.site t.site) on (lt-ltb s.site t.site (omega arith))))
+    (or_cases (row_ahead s.row t.row) _ two.0)
+
 module _ (rows : List Row) (seats : List Seat) (e : formed rows seats ≡ true) where
   parts : (rows_formed rows ≡ true) × ((list_all (seat_formed rows) seats && every_pair seats_apart seats) ≡ true)
   parts = and_parts (rows_formed rows) (list_all (seat_formed rows) seats && every_pair seats_apart seats) e
@@ -192,6 +205,13 @@ module _ (rows : List Row) (seats : List Seat) (e : formed rows seats ≡ true) 
         (seats_on r seats) (pairs_kept (on_row r) (λ s t. seats_apart s t ≡ true) seats twos)
         (pairs_both (λ s. on_row r s ≡ true) (seats_on r seats) (kept_by_passes (on_row r) seats));
   }
+
+  -- so the seats stand in row order, and on one row by their sites
+  pub formed_standing : Ordered stands_ahead seats
+  formed_standing =
+      pairs_ordered stands_ahead seats
+      (pairs_with (λ s t. seats_apart s t ≡ true) (λ s t. Passes s.cell × Passes t.cell) (λ s t. stands_ahead s t ≡ true) (λ s t two pass. stand_two s t pass.0 two)
+      seats twos (pairs_both (λ s. Passes s.cell) seats formed_listed.pass))
 
 -- what holds of the seats of each row holds of each seat ..
 pub each_own : (P : Seat → Type 0) (seats : List Seat) → ((r : Row) → AllByRecursion (λ s. on_row r s ≡ true → P s) seats) → AllByRecursion P seats

@@ -1,5 +1,5 @@
 -- What is known once a row is chosen for a cell.
-use Rattle.std.proofs.Common.{◌≡◌, ℕ, Bool, true, false, cond, ◌||◌, eqb, leb, List, [], ◌∷◌, Some, None, Ok, Option, IsSome, sym, refl, ap, ◌∙◌, subst, arith}
+use Rattle.std.proofs.Common.{◌≡◌, ℕ, ◌≤◌, Bool, true, false, cond, ◌||◌, eqb, leb, List, [], ◌∷◌, Some, None, Ok, Option, IsSome, IfSome, length, sym, refl, ap, ◌∙◌, subst, arith}
 use Rattle.std.proofs.lemmas.Bool.{or_left, or_right, cond_both, cond-false, eq-eqb, both_ways}
 use Rattle.std.proofs.ByRecursion.{All-weaker}
 use Rattle.std.proofs.lemmas.Option.{same_Some}
@@ -8,13 +8,12 @@ use Rattle.std.specs.Option.{option_map, ok_or}
 use Rattle.measure.specs.Costs.{Fair, Price}
 use Rattle.row.specs.Records.{check}
 use Rattle.row.specs.Sites.{row_sites}
-use Rattle.row.specs.Stack.{Ready}
 use Rattle.row.proofs.Accepted.{both}
 use Rattle.row.specs.declared.Cell.{Cell}
 use Rattle.row.specs.declared.Row.{Row}
 use Rattle.table.proofs.Inserted.{put_in, put_all, inserted_is}
-use Rattle.floor.specs.Calls.{outcome_unless, better, chosen, rise, seated, seat_of, site_then, outcome_on, place}
-use Rattle.floor.specs.Choices.{choice_of, placing_of}
+use Rattle.floor.specs.Calls.{placing_on, outcome_unless, better, chosen, rise, seated, seat_of, outcome_on, place}
+use Rattle.floor.specs.Choices.{best_choice, choice_of, sites_with}
 use Rattle.floor.specs.Formed.{formed}
 use Rattle.floor.specs.Refusals.{has_sites, stands, cell_refusal, place_refusal}
 use Rattle.floor.specs.Seats.{seat_ahead, cells_on, new_seat, joined, resited}
@@ -25,7 +24,9 @@ use Rattle.floor.specs.declared.Refusal.TheVariants.{NoRoom}
 use Rattle.floor.specs.declared.Seat.{Seat}
 use Rattle.floor.specs.declared.choice.Choice.{Choice}
 use Rattle.floor.proofs.Anys.{any_map}
-use Rattle.floor.proofs.Joining.{placeable, fresh_each, seated_formed}
+use Rattle.floor.proofs.Granted.{sites_each}
+use Rattle.floor.proofs.Settling.{ready_places}
+use Rattle.floor.proofs.Joining.{Placeable, placeable, fresh_each, seated_formed}
 use Rattle.floor.proofs.Listed.{is_row, Standing}
 use Rattle.floor.proofs.Ready.{ready_standing}
 use Rattle.floor.proofs.Resited.{resited_all, resited_cells}
@@ -115,44 +116,54 @@ seated_row f seats cell row s fresh found =
     let each : AllByRecursion P all = subst (AllByRecursion P) (sym (inserted_is seat_ahead k seats)) (put_all seat_ahead k P seats (λ _. refl) old) in
     found_has (λ t. t.row ≡ row) cell.number (seated f seats cell row) s (resited_all row P (λ t x h. h) (row_sites f row (cells_on row all)) all each) found
 
--- what is known once a row is chosen for a cell that no other check refuses
-pub record Chose (f : Price) (rows : List Row) (seats : List Seat) (cell : Cell) (choice : Choice) : Type 0 where
-  pub is : chosen f seats cell rows ≡ Some choice.row
-  pub rises : choice.rise ≡ rise f seats cell choice.row
-  pub site : choice.site ≡ site_then cell.number (seated f seats cell choice.row)
-  pub fresh : stands cell.number seats ≡ false
-  pub free : cell_refusal seats cell ≡ None
-  pub ready : Ready choice.row (cells_on choice.row (joined choice.row cell seats))
-  pub well : formed rows (seated f seats cell choice.row) ≡ true
+-- what is known once a row is chosen for a cell that no other check refuses, with the sites that were kept
+pub record Chose (f : Price) (t : Tables) (cell : Cell) (choice : Choice) (kept : List ℕ) : Type 0 where
+  pub is : chosen f t.seats cell t.rows ≡ Some choice.row
+  pub placing : choice.placing ≡ placing_on f t.seats cell choice.row
+  pub sites : kept ≡ sites_with f t.seats cell choice.row
+  pub can : Placeable t.seats cell
+  pub free : cell_refusal t.seats cell ≡ None
+  pub each : length kept ≡ length (cells_on choice.row (joined choice.row cell t.seats))
+  pub places : AllByRecursion (λ x. x ≤ 65535) kept
+  pub well : formed t.rows (seated f t.seats cell choice.row) ≡ true
 
 choice_is : (f : Price) (seats : List Seat) (cell : Cell) (choice : Choice) (row : Row) → Ok choice ≡ ok_or {E = Refusal} (Some (choice_of f seats cell row)) NoRoom → choice ≡ choice_of f seats cell row
 choice_is f seats cell choice row e = cc
 
-pub chose : {f : Price} (fair : Fair f) (rows : List Row) (seats : List Seat) (cell : Cell) {choice : Choice} {given : Option Choice} → formed rows seats ≡ true → None ≡ cell_refusal seats cell → Ok choice ≡ ok_or given NoRoom → given ≡ option_map (choice_of f seats cell) (chosen f seats cell rows) → Chose f rows seats cell choice
-chose {f} fair rows seats cell {choice} {given} well free taken told = by_row (chosen f seats cell rows) refl (taken ∙ ap (λ o. ok_or o NoRoom) told)
+taken_is : (choice : Choice) (o : Option Choice) → Ok choice ≡ ok_or {E = Refusal} o NoRoom → o ≡ Some choice
+taken_is choice None e = let never : ◌≡◌ {A = ℕ} 0 1 = cc in absurd (omega arith)
+taken_is choice (Some other) e = let same : choice ≡ other = cc in ap Some (sym same)
+
+pub chose : {f : Price} (fair : Fair f) (t : Tables) (cell : Cell) {choice : Choice} {given : Option Choice} {sites : List ℕ} → formed t.rows t.seats ≡ true → None ≡ cell_refusal t.seats cell → Ok choice ≡ ok_or given NoRoom → given ≡ best_choice f t cell
+    → IfSome given (λ c. sites ≡ sites_with f t.seats cell c.row) → Chose f t cell choice sites
+chose {f} fair t cell {choice} {given} {sites} well free taken told kept = by_row (chosen f t.seats cell t.rows) refl (taken ∙ ap (λ o. ok_or o NoRoom) told)
   where
-    by_row : (o : Option Row) → chosen f seats cell rows ≡ o → Ok choice ≡ ok_or (option_map (choice_of f seats cell) o) NoRoom → Chose f rows seats cell choice
+    by_row : (o : Option Row) → chosen f t.seats cell t.rows ≡ o → Ok choice ≡ ok_or (option_map (choice_of f t.seats cell) o) NoRoom → Chose f t cell choice sites
     by_row None is e = let never : ◌≡◌ {A = ℕ} 0 1 = cc in absurd (omega arith)
     by_row (Some row) is e =
-        let same = choice_is f seats cell choice row e in
+        let same = choice_is f t.seats cell choice row e in
         let row_is : choice.row ≡ row = ap (λ c. c.row) same in
-        let chosen_is : chosen f seats cell rows ≡ Some choice.row = is ∙ ap Some (sym row_is) in
-        let good = chosen_good f rows seats cell choice.row chosen_is in
+        let chosen_is : chosen f t.seats cell t.rows ≡ Some choice.row = is ∙ ap Some (sym row_is) in
+        let good = chosen_good f t.rows t.seats cell choice.row chosen_is in
         let none = sym free in
-        let can = placeable seats cell none in
+        let can = placeable t.seats cell none in
+        let cs : List Cell = cells_on choice.row (joined choice.row cell t.seats) in
+        let ready = ready_standing t.rows t.seats well cell can choice.row good.stands good.fits in
+        let found : sites ≡ sites_with f t.seats cell choice.row = subst (λ o. IfSome o (λ c. sites ≡ sites_with f t.seats cell c.row)) (taken_is choice given taken) kept in
         record {
           is = chosen_is;
-          rises = ap (λ c. c.rise) same ∙ ap (rise f seats cell) (sym row_is);
-          site = ap (λ c. c.site) same ∙ ap (λ r. site_then cell.number (seated f seats cell r)) (sym row_is);
-          fresh = can.fresh;
+          placing = ap (λ c. c.placing) same ∙ ap (placing_on f t.seats cell) (sym row_is);
+          sites = found;
+          can = can;
           free = none;
-          ready = ready_standing rows seats well cell can choice.row good.stands good.fits;
-          well = seated_formed f fair rows seats cell choice.row well can good.stands good.fits;
+          each = ap length found ∙ sites_each fair choice.row cs ready;
+          places = subst (AllByRecursion (λ x. x ≤ 65535)) (sym found) (ready_places fair choice.row cs ready);
+          well = seated_formed f fair t.rows t.seats cell choice.row well can good.stands good.fits;
         }
 
 -- what placing comes to then
-pub placing_is : {f : Price} (t : Tables) (cell : Cell) (choice : Choice) → Chose f t.rows t.seats cell choice
-    → ◌≡◌ {A = Outcome Placing} (record { answer = Ok (placing_of choice); tables = record { rows = t.rows; seats = seated f t.seats cell choice.row } }) (place f t cell)
-placing_is {f} t cell choice known =
-    (λ i. record { answer = Ok (record { spot = record { line = choice.row.line; site = known.site i }; rise = known.rises i }); tables = record { rows = t.rows; seats = seated f t.seats cell choice.row } })
+pub placing_is : {f : Price} (t : Tables) (cell : Cell) (choice : Choice) {sites : List ℕ} → Chose f t cell choice sites
+    → ◌≡◌ {A = Outcome Placing} (record { answer = Ok choice.placing; tables = record { rows = t.rows; seats = resited choice.row sites (joined choice.row cell t.seats) } }) (place f t cell)
+placing_is {f} t cell choice {sites} known =
+    (λ i. record { answer = Ok (known.placing i); tables = record { rows = t.rows; seats = resited choice.row (known.sites i) (joined choice.row cell t.seats) } })
     ∙ sym (ap (λ o. outcome_unless o t (outcome_on f t cell (chosen f t.seats cell t.rows))) known.free ∙ ap (outcome_on f t cell) known.is)

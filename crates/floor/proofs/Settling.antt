@@ -27,7 +27,7 @@ use Rattle.table.specs.Order.{Ordered}
 use Rattle.table.proofs.Inserted.{Pairs}
 use Rattle.floor.specs.Formed.{formed}
 use Rattle.floor.specs.Rows.{same_row}
-use Rattle.floor.specs.Seats.{on_row, seat_ahead, seats_on, cells_on, cell_of, moved_all, settled, Sited as OfTable}
+use Rattle.floor.specs.Seats.{on_row, seat_ahead, seats_on, cells_on, cell_of, moved_all, resited, settled, Sited as OfTable}
 use Rattle.floor.specs.Spans.{Spanned}
 use Rattle.floor.specs.declared.Seat.{Seat}
 use Rattle.floor.proofs.Granted.{sites_each}
@@ -153,26 +153,36 @@ module _ (price : Price) (fair : Fair price) (row : Row) (seats : List Seat) (fi
   pub settled_formed : (rows : List Row) → Listed rows seats → Standing rows row → ((r : Row) → same_row r row ≡ false → Sited (seats_on r seats)) → formed rows (settled price row seats) ≡ true
   settled_formed rows listed stands others = resited_formed rows row (row_sites price row cells) seats listed stands others sites_long sites_within sites_behind
 
--- a row set by the program: its cells gathered, their sites found, and its seats moved to them in the table
-pub record Set (price : Price) (row : Row) (seats new : List Seat) : Type 0 where
-  pub is : new ≡ settled price row seats
+-- the seats of a row, moved to sites in the table
+pub record Resettled (row : Row) (sites : List ℕ) (seats new : List Seat) : Type 0 where
+  pub is : new ≡ resited row sites seats
   pub ordered : Ordered seat_ahead new
   pub sited : AllByRecursion OfTable new
   pub few : length new ≤ 1024
 
-pub set_row : {f : Price} (fair : Fair f) (row : Row) (seats : List Seat) {looked slice moved : List Seat} {none gathered cells : List Cell} {sites : List ℕ} (r : Range ℕ) {n : ℕ} → Ready row (cells_on row seats) → Ordered seat_ahead seats → AllByRecursion OfTable seats → Spanned row seats r →
-    none ≡ [] → looked ≡ seats → gathered ≡ none ++ map cell_of (between r.start r.end looked) → cells ≡ gathered → sites ≡ row_sites f row cells → slice ≡ seats → moved ≡ moved_all sites (between r.start r.end slice) → n ≡ length seats → length seats ≤ 1024 →
-    Set f row seats (take n (put_mid r.start (r.end - r.start) slice moved ++ drop (length (put_mid r.start (r.end - r.start) slice moved)) seats))
-set_row {f} fair row seats {looked} {slice} {moved} {none} {gathered} {cells} {sites} r {n} ready ordered sited own empty look gather same set slices move long few =
+-- as the program moves them: one for each, in the stretch that they are
+pub move_row : (row : Row) (sites : List ℕ) (seats : List Seat) {slice moved : List Seat} (r : Range ℕ) {n : ℕ} → Ordered seat_ahead seats → AllByRecursion OfTable seats → length seats ≤ 1024 → Spanned row seats r →
+    length sites ≡ length (cells_on row seats) → AllByRecursion (λ x. x ≤ 65535) sites → slice ≡ seats → moved ≡ moved_all sites (between r.start r.end slice) → n ≡ length seats →
+    Resettled row sites seats (take n (put_mid r.start (r.end - r.start) slice moved ++ drop (length (put_mid r.start (r.end - r.start) slice moved)) seats))
+move_row row sites seats {slice} {moved} r {n} ordered sited few own each places slices move long =
+    let is = written_resited row sites seats slice moved r n own each slices move long in
+    record {
+      is = is;
+      ordered = subst (Ordered seat_ahead) (sym is) (resited_ordered row sites seats ordered);
+      sited = subst (AllByRecursion OfTable) (sym is) (resited_sited row sites seats places sited);
+      few = let same = ap length is ∙ resited_length row sites seats in omega arith;
+    }
+
+-- the sites that `set` gives the cells of a row are places
+pub ready_places : {f : Price} (fair : Fair f) (row : Row) (cells : List Cell) → Ready row cells → AllByRecursion (λ x. x ≤ 65535) (row_sites f row cells)
+ready_places {f} fair row cells ready = row_places f row cells (length cells) fair (accepted row cells (length cells) ready)
+
+-- a row set by the program: its cells gathered, their sites found, and its seats moved to them
+pub set_row : {f : Price} (fair : Fair f) (row : Row) (seats : List Seat) {looked slice moved : List Seat} {none gathered cells : List Cell} {sites : List ℕ} (r : Range ℕ) {n : ℕ} → Ready row (cells_on row seats) → Ordered seat_ahead seats → AllByRecursion OfTable seats → length seats ≤ 1024 → Spanned row seats r →
+    none ≡ [] → looked ≡ seats → gathered ≡ none ++ map cell_of (between r.start r.end looked) → cells ≡ gathered → sites ≡ row_sites f row cells → slice ≡ seats → moved ≡ moved_all sites (between r.start r.end slice) → n ≡ length seats →
+    Resettled row (row_sites f row (cells_on row seats)) seats (take n (put_mid r.start (r.end - r.start) slice moved ++ drop (length (put_mid r.start (r.end - r.start) slice moved)) seats))
+set_row {f} fair row seats {looked} {slice} {moved} {none} {gathered} {cells} {sites} r {n} ready ordered sited few own empty look gather same set slices move long =
     let cs : List Cell = cells_on row seats in
     let all : cells ≡ cs = same ∙ gather ∙ (λ i. empty i ++ map cell_of (between r.start r.end (look i))) ∙ ap (map cell_of) own.seats_are in
     let found : sites ≡ row_sites f row cs = set ∙ ap (row_sites f row) all in
-    let each : length (row_sites f row cs) ≡ length cs = sites_each fair row cs ready in
-    let is = written_resited row (row_sites f row cs) seats slice moved r n own each slices (move ∙ ap (λ xs. moved_all xs (between r.start r.end slice)) found) long in
-    let places = row_places f row cs (length cs) fair (accepted row cs (length cs) ready) in
-    record {
-      is = is;
-      ordered = subst (Ordered seat_ahead) (sym is) (resited_ordered row (row_sites f row cs) seats ordered);
-      sited = subst (AllByRecursion OfTable) (sym is) (resited_sited row (row_sites f row cs) seats places sited);
-      few = let same = ap length is ∙ resited_length row (row_sites f row cs) seats in omega arith;
-    }
+    move_row row (row_sites f row cs) seats r ordered sited few own (sites_each fair row cs ready) (ready_places fair row cs ready) slices (move ∙ ap (λ xs. moved_all xs (between r.start r.end slice)) found) long

@@ -1,25 +1,25 @@
 -- A walk over the rows of a floor begins in step: the seats of the table are in the order of the rows.
-use Rattle.std.proofs.Common.{◌≡◌, ℕ, ◌<◌, true, false, not, List, [], ◌∷◌, ◌++◌, map, length, get_or, take, drop, Option, sym, refl, ap, ◌∙◌, subst, ⊎_elim, arith}
+use Rattle.std.proofs.Common.{◌≡◌, ℕ, true, false, not, List, [], ◌∷◌, ◌++◌, take, drop, sym, refl, ap, ◌∙◌, subst, ⊎_elim, arith}
 use Rattle.std.proofs.ByRecursion.{All-weaker, All-drop, kept_by_passes}
 use Rattle.std.proofs.lemmas.Bool.{and_parts, or_cases, both_ways}
-use Rattle.std.proofs.lemmas.List.{length-map, get_or-map}
-use Rattle.std.specs.List.{prefix_len, list_any, filter_map, cons_option, AllByRecursion}
+use Rattle.std.specs.List.{prefix_len, take_while, list_any, AllByRecursion}
 use Rattle.row.specs.Records.{row_ahead}
 use Rattle.row.specs.declared.Row.{Row}
 use Rattle.table.specs.Order.{Ordered}
 use Rattle.floor.specs.Formed.{every_pair, formed}
 use Rattle.floor.specs.Rows.{share}
 use Rattle.floor.specs.Seats.{on_row, seat_ahead, seats_on}
-use Rattle.floor.specs.Spans.{InStep}
-use Rattle.floor.specs.Walks.{seen}
 use Rattle.floor.specs.declared.Seat.{Seat}
-use Rattle.floor.specs.declared.seats.Seats.{Seats}
-use Rattle.floor.specs.declared.seats.stretch.RowSeats.{RowSeats}
 use Rattle.floor.proofs.Kept.{kept_none, kept_parts, ordered_drop, all_with}
-use Rattle.floor.proofs.Listed.{Standing, standing_at, is_row, row_is, row_parts, standing_all, formed_listed}
+use Rattle.floor.proofs.Listed.{Standing, is_row, row_is, row_parts, standing_all, formed_listed}
 use Rattle.floor.proofs.Orders.{same_refl}
 use Rattle.floor.proofs.Stretch.{NotBefore, own_first, own_ends}
 use Rattle.floor.proofs.Tests.{pairs_all, pairs_ordered}
+
+-- the seats that are ahead begin with those of the first row, and behind them it is the same with the other rows
+abbrev pub InStep : List Seat → List Row → List Seat → Type 0
+InStep seats [] ahead = Unit {0}
+InStep seats (row ∷ rows) ahead = (take_while (on_row row) ahead ≡ seats_on row seats) × InStep seats rows (drop (prefix_len (on_row row) ahead) ahead)
 
 -- a seat on a row is not on a later one
 on_off : (row later : Row) (s : Seat) → row_ahead row later ≡ true → on_row row s ≡ true → on_row later s ≡ false
@@ -62,19 +62,3 @@ begins_in_step rows seats well =
     let listed = formed_listed rows seats well in
     let order = and_parts (every_pair row_ahead rows) (every_pair (λ a b. not (share a b)) rows) (row_parts rows listed.well).1 in
     steps_on seats rows seats (pairs_ordered row_ahead rows (pairs_all row_ahead rows order.0)) listed.order listed.stand (all_same (λ r. seats_on r seats) rows)
-
--- a row with the table
-abbrev on_table : Seats → Row → Row × Seats
-on_table table row = (row, table)
-
--- what a walk gives: the table, and a row that stands
-pub walk_gives : (rows : List Row) (table : Seats) (own : RowSeats) (k : ℕ) → k < length (map (on_table table) rows) → seen own ≡ get_or (map (on_table table) rows) k (seen own) → (own.table.now ≡ table) × Standing rows own.row
-walk_gives rows table own k within is =
-    let long = length-map rows (on_table table) in
-    let at : seen own ≡ on_table table (get_or rows k own.row) = is ∙ get_or-map (on_table table) rows k own.row (seen own) (omega arith) in
-    (ap (λ p. p.1) at, subst (Standing rows) (sym (ap (λ p. p.0) at)) (standing_at rows k own.row (omega arith)))
-
--- what is kept of mapped ones
-pub kept_mapped : {X Y Z : Type 0} (keep : Y → Option Z) (f : X → Y) (xs : List X) → filter_map keep (map f xs) ≡ filter_map (λ x. keep (f x)) xs
-kept_mapped keep f [] = refl
-kept_mapped keep f (x ∷ xs) = ap (cons_option (keep (f x))) (kept_mapped keep f xs)

@@ -1,13 +1,14 @@
 pub mod Rows
 pub mod Seats
 pub mod Ranks
+pub mod Reasons
 pub mod Refusals
 pub mod Calls
 pub mod Choices
 pub mod Formed
 pub mod Kept
+pub mod Offers
 pub mod Settled
 pub mod Spans
 pub mod State
 pub mod Tables
-pub mod Walks

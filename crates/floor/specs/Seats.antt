@@ -12,8 +12,8 @@
 --   CanTake          that a row can be set with a cell more
 --   settled          the seats once a row is set: only the sites of its own seats are rewritten
 --   floor_cost       the cost of all seats: of their sites and of their lines
-use Rattle.std.specs.Prelude.{ℕ, ◌+◌, ◌≤◌, Bool, cond, ◌&&◌, ◌||◌, List, [], ◌∷◌, map, filter}
-use Rattle.std.specs.List.{insert}
+use Rattle.std.specs.Prelude.{ℕ, ◌+◌, ◌≤◌, Bool, cond, ◌&&◌, ◌||◌, List, [], ◌∷◌, Option, map, filter, nat_eq, nat_lt}
+use Rattle.std.specs.List.{insert, position_from}
 use Rattle.measure.specs.Costs.{Price}
 use Rattle.row.specs.Records.{before, row_ahead}
 use Rattle.row.specs.Costs.{line_cost, site_cost, sites_cost}
@@ -42,10 +42,19 @@ costs_by cell_of row_of site_of price (x ∷ xs) = cell_cost price (cell_of x) (
 abbrev pub on_row : Row → Seat → Bool
 on_row row s = same_row s.row row
 
+-- where the seat of a number is among some seats
+abbrev pub seat_index : ℕ → List Seat → Option ℕ
+seat_index number seats = position_from (λ s. nat_eq s.cell.number number) 0 seats
+
 -- the order of seats: by row order, then by wanted order
 abbrev pub seat_ahead : Seat → Seat → Bool
 seat_ahead s t = row_ahead s.row t.row || (on_row t.row s && before s.cell t.cell)
 
+-- how seats stand: by row order, and on one row by their sites
+abbrev pub stands_ahead : Seat → Seat → Bool
+stands_ahead s t = row_ahead s.row t.row || (on_row t.row s && nat_lt s.site t.site)
+
+-- the seats on a row, in their order
 abbrev pub seats_on : Row → List Seat → List Seat
 seats_on row seats = filter (on_row row) seats
 

@@ -1,19 +1,19 @@
-// The two measures by name, for programs whose input says which one counts.
+//! The two measures by name, for programs whose input says which one counts.
 ghost use Rattle.std.specs.Prelude.{Some, codes};
 ghost use Rattle.measure.specs.Names.{Decodes, named_fair, named_price, word};
 
-use crate::{Measure, Plain, Squared};
+use crate::{Measure, Move, Plain, Squared, Step};
 use std::error::Error;
 use std::fmt;
 
-// The name of a measure. It is a measure itself, which costs what the measure of that name costs.
+/// The name of a measure. It is a measure itself, which costs what the measure of that name costs.
 #[derive(Clone, Copy, PartialEq, Eq, Debug)]
 pub enum MeasureName {
     Squared,
     Plain,
 }
 
-// Why there is no measure: the byte names none.
+/// Why there is no measure: the byte names none.
 #[derive(Clone, Copy, PartialEq, Eq, Debug)]
 pub struct UnknownMeasure;
 
@@ -22,17 +22,17 @@ impl Measure for MeasureName {
 
     ghost fair = { named_fair };
 
-    fn price_at(&self, wanted: u16, weight: u16, place: u16) -> u64 {
+    fn price_at(&self, at: Move) -> u64 {
         match self {
-            MeasureName::Squared => Squared.price_at(wanted, weight, place),
-            MeasureName::Plain => Plain.price_at(wanted, weight, place),
+            MeasureName::Squared => Squared.price_at(at),
+            MeasureName::Plain => Plain.price_at(at),
         }
     }
 
-    fn step_at(&self, wanted: u16, weight: u16, place: u16) -> i64 {
+    fn step_at(&self, at: Step) -> i64 {
         match self {
-            MeasureName::Squared => Squared.step_at(wanted, weight, place),
-            MeasureName::Plain => Plain.step_at(wanted, weight, place),
+            MeasureName::Squared => Squared.step_at(at),
+            MeasureName::Plain => Plain.step_at(at),
         }
     }
 }

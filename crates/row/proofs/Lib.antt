@@ -10,6 +10,7 @@ pub mod Least
 pub mod Parts
 pub mod Ranges
 pub mod Rises
+pub mod Rounding
 pub mod Stacked
 pub mod Subject
 pub mod Theory

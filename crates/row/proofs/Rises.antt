@@ -29,7 +29,7 @@ step_bounds {f} fair c p passes low =
 -- Facts of one turn of a loop over cells, at the cell with index i.
 module _ (cells : List Cell) (i : ℕ) (within : i < length cells) where
   -- the cell's own checks let it pass, in a row that is not refused
-  passes_at : (row : Row) → Ready row cells → Passes (get_or cells i no_cell)
+  pub passes_at : (row : Row) → Ready row cells → Passes (get_or cells i no_cell)
   passes_at row ready = All-get_or Passes cells i no_cell within (ready_known row cells ready).pass
 
   -- so it is within its ranges

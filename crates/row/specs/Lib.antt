@@ -1,8 +1,10 @@
 pub mod Checked
 pub mod Clusters
 pub mod Costs
+pub mod Reasons
 pub mod Records
 pub mod Refusals
+pub mod Rounding
 pub mod Settings
 pub mod Sites
 pub mod Stack

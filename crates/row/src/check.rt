@@ -1,8 +1,7 @@
 // The checks of cells, of rows and of all that `set` is given, in the order of what they refuse.
 ghost use Rattle.std.specs.Prelude.{◌≡◌, ◌≤◌, length, None};
-ghost use Rattle.row.specs.declared.Refusal.TheVariants.{OutOfRange};
 ghost use Rattle.row.specs.Records.{cell_fault, row_fault, widths};
-ghost use Rattle.row.specs.Refusals.{fault_number, number_of, next_refusal, cells_refusal, set_refusal};
+ghost use Rattle.row.specs.Refusals.{next_refusal, cells_refusal, set_refusal};
 ghost use Rattle.row.specs.Checked.{checked};
 
 use crate::{Cell, Fault, MOST_CELLS, Refusal, Row};
@@ -16,38 +15,6 @@ const MOST_WIDTH: u32 = 1_000;
 
 // The greatest number of a cell.
 const LAST_NUMBER: u32 = 65_535;
-
-impl Fault {
-    // The number of a field that is outside its range.
-    pub fn number(self) -> u32
-        ensures { result ≡ fault_number self }
-    {
-        self as u32
-    }
-}
-
-impl Refusal {
-    // The number of a refusal.
-    pub fn number(self) -> u32
-        ensures { result ≡ number_of self }
-    {
-        // A match, since one of the variants holds a fault, so that the enum has no numbers of its own.
-        match self {
-            Refusal::OutOfRange(fault) => fault.number(),
-            Refusal::Size => 12,
-            Refusal::Order => 13,
-            Refusal::TooWide => 14,
-        }
-    }
-}
-
-impl From<Fault> for Refusal {
-    ghost from_gives = { λ fault r. r ≡ OutOfRange fault };
-
-    fn from(fault: Fault) -> Refusal {
-        Refusal::OutOfRange(fault)
-    }
-}
 
 impl Row {
     // Refuses a row that is outside its ranges.

@@ -3,11 +3,15 @@
 
 mod check;
 mod cluster;
+mod moves;
 mod order;
+mod refusals;
 mod setting;
+mod squared;
 mod task;
 
 pub use setting::set;
+pub use squared::squared_best_sites;
 pub use task::Task;
 
 // How many cells a row is set with at most.
@@ -43,7 +47,7 @@ pub struct Row {
     pub right: u32,
 }
 
-// A field of a cell or a row that is outside its range, under its number.
+/// A field of a cell or a row that is outside its range, under its number.
 #[derive(Clone, Copy, PartialEq, Eq, Debug)]
 pub enum Fault {
     Wanted = 1,
@@ -53,7 +57,8 @@ pub enum Fault {
     Row = 9,
 }
 
-// Why a row is not set. What is printed of a refusal is its number, by the rule of the formats, so that it has no words of its own.
+/// Why a row is not set: a field outside its range; more than 1,024 cells, or not one site for
+/// each; cells that are not in wanted order; cells that are wider than the row.
 #[derive(Clone, Copy, PartialEq, Eq, Debug)]
 pub enum Refusal {
     OutOfRange(Fault),

@@ -1,5 +1,5 @@
 // Wanted order and row order.
-ghost use Rattle.std.specs.Prelude.{◌≡◌, false, [], ◌∷◌};
+ghost use Rattle.std.specs.Prelude.{◌≡◌, [], ◌∷◌};
 ghost use Rattle.row.specs.Records.{before, row_ahead};
 ghost use Rattle.std.proofs.Common.{rules};
 

@@ -26,9 +26,7 @@ impl<'a, M: Measure> Task<'a, M> {
         // By place: over a `zip` with `iter_mut` an invariant has no name for what has been written, so the proof does not close.
         for (i, cell) in self.cells.iter().enumerate() {
             sites[i] = site;
-            cost += self
-                .measure
-                .price_at(cell.wanted.site as u16, cell.weight as u16, site as u16);
+            cost += cell.site_cost(self.measure, site);
             site += cell.width;
         }
         cost

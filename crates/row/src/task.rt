@@ -70,9 +70,7 @@ impl<'a, M: Measure> Task<'a, M> {
         let mut sum: i64 = 0;
         let mut site = start;
         for cell in self.cells {
-            sum += self
-                .measure
-                .step_at(cell.wanted.site as u16, cell.weight as u16, site as u16);
+            sum += cell.site_step(self.measure, site);
             site += cell.width;
         }
         sum

@@ -29,5 +29,9 @@ pub fn place_of<R: Ranked>(table: &[R], key: &R) -> usize
     ensures bound { result ≤ length table.now }
     ensures finds { Ordered R.ahead table.now → result ≡ rank_of R.ahead table.now key.now }
 {
-    table.partition_point(|record| record.is_ahead(key))
+    table.partition_point(
+        |record| -> bool
+            ensures { result ≡ R.ahead record.now key.entry.now }
+        { record.is_ahead(key) },
+    )
 }

@@ -1,40 +1,52 @@
-use Rattle.std.proofs.Common.{◌≡◌, true, map, sym, ap, ◌∙◌, rules}
-use Rattle.std.proofs.lemmas.Iterator.Adapters.{serves_from_places}
-use Rattle.std.proofs.lemmas.Iterator.Consumers.{YieldsList-from_filter_map, YieldsList-from_first}
-use Rattle.floor.specs.Choices.{choice_on}
-use Rattle.floor.specs.Formed.{formed}
-use Rattle.floor.specs.Walks.{seen, left}
-use Rattle.floor.proofs.Chosen.{least_chosen}
-use Rattle.floor.proofs.Leasts.{first_least, least_of}
-use Rattle.floor.proofs.Ready.{offer_ready}
-use Rattle.floor.proofs.Walked.{walk_gives, kept_mapped}
+use Rattle.std.proofs.Common.{◌≡◌, ℕ, suc, ◌+◌, ◌∷◌, take, drop, length, get_or, sym, ap, ◌∙◌, subst, drop-cons, arith}
+use Rattle.floor.specs.Offers.{price_in, seats_in}
+use Rattle.floor.specs.Seats.{seats_on}
+use Rattle.floor.proofs.Chosen.{SoFar, so_first, so_more}
+use Rattle.floor.proofs.Defaults.{no_row}
+use Rattle.floor.proofs.Listed.{standing_at}
+use Rattle.floor.proofs.Ready.{offered}
+use Rattle.floor.proofs.Walked.{InStep, begins_in_step}
 use Rattle.floor.proofs.choice.Offer.choose.Goals as goal
 
-pub min_by_key-requires-clause-can : goal.min_by_key-requires-clause-can
-min_by_key-requires-clause-can g c =
-    let rows = c.args.rows.now in
-    let offer = c.filter_map.result.f.0.now in
-    let table = offer.seats.now in
-    let seats = table.items.items in
-    let well : formed rows seats ≡ true = ap (λ f. formed rows f.0.now.seats.now.items.items) c.filter_map.ensures.closure ∙ c.requires in
-    let walk = ap left c.filter_map.ensures.source ∙ c.walk.ensures ∙ ap (λ f. map (λ row. (row, f.0.now.seats.now)) rows) (sym c.filter_map.ensures.closure) in (
-      tt,
-      tt,
-      serves_from_places (YieldsList-from_first seen left (map (λ row. (row, table)) rows) walk) (λ x q k. search rules)
-          (λ own k within is _ _ _ _ _ _ _.
-          let gives = walk_gives rows table own k within is in
-          (gives.0, offer_ready rows seats offer.cell well offer.free own.row gives.1)),
-    )
+suc-is : (i : ℕ) → suc i ≡ i + 1
+suc-is i = omega arith
 
-pub returns : goal.returns
-returns g c =
-    let rows = c.args.rows.now in
-    let self = c.args.self.now in
-    let f = g.M.Measure.price self.measure.now in
-    let table = self.seats.now in
-    let seats = table.items.items in
-    let walk = ap left c.filter_map.ensures.source ∙ c.walk.ensures in
-    least_of _ (λ choice. choice.rise) _ (λ x k q h. search rules) c.min_by_key.result c.min_by_key.ensures.ran
-    (YieldsList-from_filter_map _ (λ p. choice_on f seats self.cell p.0) (YieldsList-from_first seen left (map (λ row. (row, table)) rows) walk) c.filter_map.ensures.closure (λ x r q k. search rules))
-    ∙ ap (first_least (λ choice. choice.rise)) (kept_mapped (λ p. choice_on f seats self.cell p.0) (λ row. (row, table)) rows)
-    ∙ least_chosen f seats self.cell rows
+pub loop-row-init : goal.loop-row-init
+loop-row-init g c =
+    let offer = c.args.self.now in
+    record {
+      in_step = subst (InStep (seats_in offer) offer.rows.now) (sym c.as_slice-ahead.ensures) (begins_in_step offer.rows.now (seats_in offer) offer.well);
+      so_far = so_first (price_in offer) (seats_in offer) offer.cell offer.rows.now c.args.kept.now.items;
+    }
+
+pub invariant_of-own : goal.invariant_of-own
+invariant_of-own g c =
+    let offer = c.args.self.now in
+    let rows = offer.rows.now in
+    let seats = seats_in offer in
+    let i = c.loop-row.row-index in
+    let row = get_or rows i no_row in
+    let left : drop i rows ≡ row ∷ drop (i + 1) rows = drop-cons rows i no_row c.loop-row-test.true ∙ ap (λ n. row ∷ drop n rows) (suc-is i) in
+    let steps = subst (λ l. InStep seats l c.loop-row.ahead.now) left c.loop-row.invariant.in_step in
+    let own : c.split_at.result.0.now ≡ seats_on row seats = c.split_at.ensures.front ∙ ap (λ n. take n c.loop-row.ahead.now) c.count_on.ensures.value ∙ steps.0 in
+    let known = offered rows seats offer.cell offer.well offer.free row (standing_at rows i no_row c.loop-row-test.true) in
+    let few = known.few in
+    let long = ap length own in
+    record { few = omega arith; some = known.some; own = own; ready = known.ready }
+
+pub loop-row-preserved : goal.loop-row-preserved
+loop-row-preserved g c =
+    let offer = c.args.self.now in
+    let rows = offer.rows.now in
+    let seats = seats_in offer in
+    let i = c.loop-row.row-index in
+    let row = get_or rows i no_row in
+    let left : drop i rows ≡ row ∷ drop (i + 1) rows = drop-cons rows i no_row c.loop-row-test.true ∙ ap (λ n. row ∷ drop n rows) (suc-is i) in
+    let steps = subst (λ l. InStep seats l c.loop-row.ahead.now) left c.loop-row.invariant.in_step in
+    let rest = c.split_at.ensures.back ∙ ap (λ n. drop n c.loop-row.ahead.now) c.count_on.ensures.value in
+    record {
+      in_step = subst (InStep seats (drop (i + 1) rows)) (sym rest) steps.1;
+      so_far = so_more (price_in offer) seats offer.cell rows row (drop (i + 1) rows) c.loop-row.best c.better-best.result c.loop-row.kept.items c.better-best.new.kept.items
+          (subst (λ l. SoFar (price_in offer) seats offer.cell rows l c.loop-row.best c.loop-row.kept.items) left c.loop-row.invariant.so_far)
+          c.better-best.ensures.better c.better-best.ensures.kept;
+    }

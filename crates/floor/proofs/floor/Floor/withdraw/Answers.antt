@@ -1,22 +1,24 @@
-use Rattle.std.proofs.Common.{Ok, sym, ap, ◌∙◌, subst}
+use Rattle.std.proofs.Common.{Ok, refl, sym, ap, ◌∙◌, subst}
+use Rattle.floor.specs.Calls.{outcome_without}
 use Rattle.floor.specs.Formed.{formed}
 use Rattle.floor.specs.Settled.{Settled}
 use Rattle.floor.specs.State.{tables_of}
-use Rattle.floor.proofs.Leaving.{found_known, withdraw_formed, withdraw_settled}
+use Rattle.floor.proofs.Leaving.{found_known, not_found, withdraw_formed, withdraw_settled}
 use Rattle.floor.proofs.floor.Floor.withdraw.Goals as goal
 
 -- the goals stand at places of the body whose facts have types of their own: so `found_known` is given them at each
-pub unseat-requires : goal.unseat-requires
-unseat-requires g c =
+pub unseat-seat-requires : goal.unseat-seat-requires
+unseat-seat-requires g c =
     let self = c.args.self.now in
-    (found_known (g.M.Measure.price self.measure) (tables_of self) c.args.number c.in_ok-seat.seat self.well self.seats.few c.find.ensures c.in_ok-seat.ensures.ok_part).ready
+    let known = found_known (g.M.Measure.price self.measure) (tables_of self) c.args.number c.in-Some.at self.well self.seats.few c.position.ensures c.in-Some.is in
+    record { within = known.within; ready = known.ready }
 
 pub invariant_of-self : goal.invariant_of-self
 invariant_of-self g c =
     let self = c.args.self.now in
     let price = g.M.Measure.price self.measure in
-    let known = found_known price (tables_of self) c.args.number c.in_ok-seat.seat self.well self.seats.few c.find.ensures c.in_ok-seat.ensures.ok_part in
-    let after = ap (λ seats. record { rows = self.rows.items; seats = seats }) (c.unseat.ensures ∙ known.after) ∙ ap (λ o. o.tables) known.is in
+    let known = found_known price (tables_of self) c.args.number c.in-Some.at self.well self.seats.few c.position.ensures c.in-Some.is in
+    let after = ap (λ seats. record { rows = self.rows.items; seats = seats }) c.unseat-seat.ensures.left ∙ ap (λ o. o.tables) (known.is c.unseat-seat.result c.unseat-seat.ensures.taken) in
     record {
       few = self.few;
       well = ap (λ t. formed t.rows t.seats) after ∙ withdraw_formed price (g.met.M.Measure.fair self.measure) (tables_of self) self.well c.args.number;
@@ -26,11 +28,22 @@ invariant_of-self g c =
 pub returns-clause-answer : goal.returns-clause-answer
 returns-clause-answer g c =
     let self = c.args.self.now in
-    let known = found_known (g.M.Measure.price self.measure) (tables_of self) c.args.number c.in_ok-seat.seat self.well self.seats.few c.find.ensures c.in_ok-seat.ensures.ok_part in
-    ap Ok c.spot.ensures ∙ ap (λ o. o.answer) known.is
+    let known = found_known (g.M.Measure.price self.measure) (tables_of self) c.args.number c.in-Some.at self.well self.seats.few c.position.ensures c.in-Some.is in
+    ap Ok c.spot.ensures ∙ ap (λ o. o.answer) (known.is c.unseat-seat.result c.unseat-seat.ensures.taken)
 
 pub returns-clause-tables : goal.returns-clause-tables
 returns-clause-tables g c =
     let self = c.args.self.now in
-    let known = found_known (g.M.Measure.price self.measure) (tables_of self) c.args.number c.in_ok-seat.seat self.well self.seats.few c.find.ensures c.in_ok-seat.ensures.ok_part in
-    ap (λ seats. record { rows = self.rows.items; seats = seats }) (c.unseat.ensures ∙ known.after) ∙ ap (λ o. o.tables) known.is
+    let known = found_known (g.M.Measure.price self.measure) (tables_of self) c.args.number c.in-Some.at self.well self.seats.few c.position.ensures c.in-Some.is in
+    ap (λ seats. record { rows = self.rows.items; seats = seats }) c.unseat-seat.ensures.left ∙ ap (λ o. o.tables) (known.is c.unseat-seat.result c.unseat-seat.ensures.taken)
+
+pub returns-in_default : goal.returns-in_default
+returns-in_default g c =
+    let self = c.args.self.now in
+    let price = g.M.Measure.price self.measure in
+    let none = not_found c.args.number self.seats.items.items (sym c.position.ensures ∙ c.in_default.is) in
+    record {
+      answer = sym (ap (λ o. (outcome_without price (tables_of self) c.args.number o).answer) none);
+      tables = sym (ap (λ o. (outcome_without price (tables_of self) c.args.number o).tables) none);
+      same = refl;
+    }

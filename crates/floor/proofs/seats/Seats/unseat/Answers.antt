@@ -1,37 +1,40 @@
-use Rattle.std.proofs.Common.{◌≡◌, not, eqb, sym, ap, ◌∙◌, subst, rules, tests, arith}
-use Rattle.std.proofs.ByRecursion.{all_kept_by}
-use Rattle.arrayvec.proofs.ArrayVecLemmas.{filter-from_retain}
+use Rattle.std.proofs.Common.{◌≡◌, Some, slice_get, length, remove, refl, sym, ap, ◌∙◌, subst, arith}
+use Rattle.std.proofs.lemmas.Option.{slice_get_read}
+use Rattle.std.proofs.lemmas.List.Edits.{length-remove}
 use Rattle.std.specs.List.{AllByRecursion}
 use Rattle.row.specs.Stack.{Ready}
 use Rattle.table.specs.Order.{Ordered}
-use Rattle.floor.specs.Calls.{without}
 use Rattle.floor.specs.Seats.{Sited, seat_ahead, cells_on, settled}
-use Rattle.floor.specs.declared.Seat.{Seat}
-use Rattle.floor.proofs.Kept.{kept_ordered}
+use Rattle.floor.proofs.Removed.{removed_all, removed_ordered}
 use Rattle.floor.proofs.seats.Seats.unseat.Goals as goal
 
--- the goals stand at places of the body whose facts have types of their own: so `filter-from_retain` is given them at each
 pub invariant_of-self : goal.invariant_of-self
 invariant_of-self g c =
     let self = c.args.self.now in
     let seats = self.items.items in
-    let stays = λ (s : Seat). not (eqb s.cell.number c.args.seat.cell.number) in
-    let is = filter-from_retain _ stays _ (λ x b f' y k. search (rules, tests)) _ _ c.retain.ensures.filtered in
+    let at = c.args.at in
+    let is : c.remove-seat.new.self.items ≡ remove seats at = c.remove-seat.ensures.items in
+    let less = ap length is in
+    let one = length-remove seats at c.requires.within in
     let few = self.few in
-    let less = c.retain.ensures.bound in
     record {
-      ordered = subst (Ordered seat_ahead) (sym is) (kept_ordered stays seat_ahead seats self.ordered);
-      sited = subst (AllByRecursion Sited) (sym is) (all_kept_by stays Sited seats self.sited);
+      ordered = subst (Ordered seat_ahead) (sym is) (removed_ordered seat_ahead seats at self.ordered);
+      sited = subst (AllByRecursion Sited) (sym is) (removed_all Sited seats at self.sited);
       few = omega arith;
     }
 
 pub settle-requires : goal.settle-requires
 settle-requires g c =
-    let row = c.args.seat.row in
-    let is : c.retain.new.self.items ≡ without c.args.seat.cell.number c.args.self.now.items.items = filter-from_retain _ (λ (s : Seat). not (eqb s.cell.number c.args.seat.cell.number)) _ (λ x b f' y k. search (rules, tests)) _ _ c.retain.ensures.filtered in
-    subst (λ seats. Ready row (cells_on row seats)) (sym is) c.requires
+    let seats = c.args.self.now.items.items in
+    let seat = c.remove-seat.result in
+    let taken : slice_get seats c.args.at ≡ Some seat = slice_get_read seats (length seats) c.args.at seat refl c.requires.within c.remove-seat.ensures.value in
+    subst (λ l. Ready seat.row (cells_on seat.row l)) (sym c.remove-seat.ensures.items) (c.requires.ready seat taken)
 
 pub returns : goal.returns
 returns g c =
-    let is : c.retain.new.self.items ≡ without c.args.seat.cell.number c.args.self.now.items.items = filter-from_retain _ (λ (s : Seat). not (eqb s.cell.number c.args.seat.cell.number)) _ (λ x b f' y k. search (rules, tests)) _ _ c.retain.ensures.filtered in
-    c.settle.ensures ∙ ap (settled (g.M.Measure.price c.args.measure.now) c.args.seat.row) is
+    let seats = c.args.self.now.items.items in
+    let seat = c.remove-seat.result in
+    record {
+      taken = slice_get_read seats (length seats) c.args.at seat refl c.requires.within c.remove-seat.ensures.value;
+      left = c.settle.ensures ∙ ap (settled (g.M.Measure.price c.args.measure.now) seat.row) c.remove-seat.ensures.items;
+    }

@@ -1,19 +1,12 @@
 use Rattle.std.proofs.Common.{◌∙◌, arith}
 use Rattle.row.proofs.Accepted.{ready_known}
 use Rattle.row.proofs.Costs.{abut_bounded, abut_cost_more}
-use Rattle.row.proofs.Rises.{ranged_at, widths_more}
+use Rattle.row.proofs.Rises.{passes_at, widths_more}
 use Rattle.row.proofs.Writes.{abut_more}
 use Rattle.row.proofs.task.Task.abut_from.Goals as goal
 
-pub overflow_cast-cell : goal.overflow_cast-cell
-overflow_cast-cell g c =
-    let r = ranged_at c.args.self.now.cells.now c.loop-i.i c.loop-i-test.true c.args.self.now.row c.args.self.now.ready in
-    omega arith
-
-pub overflow_cast-cell-in-loop-i : goal.overflow_cast-cell-in-loop-i
-overflow_cast-cell-in-loop-i g c =
-    let r = ranged_at c.args.self.now.cells.now c.loop-i.i c.loop-i-test.true c.args.self.now.row c.args.self.now.ready in
-    omega arith
+pub site_cost-cost-requires-clause-passes : goal.site_cost-cost-requires-clause-passes
+site_cost-cost-requires-clause-passes g c = passes_at c.args.self.now.cells.now c.loop-i.i c.loop-i-test.true c.args.self.now.row c.args.self.now.ready
 
 pub overflow_add-cost : goal.overflow_add-cost
 overflow_add-cost g c =

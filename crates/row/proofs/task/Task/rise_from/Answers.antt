@@ -2,18 +2,17 @@ use Rattle.std.proofs.Common.{arith}
 use Rattle.std.proofs.lemmas.List.{at_drop_all}
 use Rattle.std.proofs.lemmas.Int.{ints}
 use Rattle.row.specs.Sites.{cluster_rise}
-use Rattle.row.proofs.Rises.{ranged_at, widths_more, rise_more, stepped}
+use Rattle.row.proofs.Rises.{passes_at, ranged_at, widths_more, rise_more, stepped}
 use Rattle.row.proofs.task.Task.rise_from.Goals as goal
 
-pub overflow_cast-cell : goal.overflow_cast-cell
-overflow_cast-cell g c =
+pub site_step-sum-requires : goal.site_step-sum-requires
+site_step-sum-requires g c =
     let r = ranged_at c.args.self.now.cells.now c.loop-cell.cell-index c.loop-cell-test.true c.args.self.now.row c.args.self.now.ready in
-    omega arith
-
-pub overflow_cast-cell-in-loop-cell : goal.overflow_cast-cell-in-loop-cell
-overflow_cast-cell-in-loop-cell g c =
-    let r = ranged_at c.args.self.now.cells.now c.loop-cell.cell-index c.loop-cell-test.true c.args.self.now.row c.args.self.now.ready in
-    omega arith
+    let more = widths_more c.args.self.now.cells.now c.loop-cell.cell-index c.loop-cell-test.true in
+    record {
+      passes = passes_at c.args.self.now.cells.now c.loop-cell.cell-index c.loop-cell-test.true c.args.self.now.row c.args.self.now.ready;
+      inside = omega arith;
+    }
 
 pub overflow_add-sum : goal.overflow_add-sum
 overflow_add-sum g c =
