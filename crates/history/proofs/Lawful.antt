@@ -10,25 +10,27 @@ use Rattle.measure.specs.declared.Measure.{Ghosts}
 use Rattle.row.specs.Records.{row_ahead}
 use Rattle.floor.specs.Rows.{same_row}
 use Rattle.floor.specs.Calls.{where_is}
-use Rattle.floor.specs.Seats.{floor_cost}
-use Rattle.row.specs.Settings.{EveryPair}
+use Rattle.floor.specs.Seats.{floor_cost, stands_ahead}
+use Rattle.table.specs.Order.{Ordered}
 use Rattle.std.specs.Prelude.{IsPermutation}
 use Rattle.floor.specs.State.{measure_of, price_of, tables_of}
 use Rattle.floor.specs.Tables.{Tables, no_tables}
 use Rattle.floor.specs.declared.Seat.{Seat}
 use Rattle.floor.specs.declared.floor.Floor.{Floor}
+use Rattle.floor.proofs.Listed.{formed_standing}
+use Rattle.floor.proofs.Rowed.{ordered_rows}
 use Rattle.floor.proofs.Orders.{row_once, same_sym, ahead_not_same}
 use Rattle.history.specs.Events.{event_of, tables_then}
 use Rattle.history.specs.Histories.{Standing, rows_in, standing_in}
 use Rattle.history.specs.Law.{Law}
-use Rattle.history.specs.Lawful.{stands_ahead, seat_at, Lawful}
+use Rattle.history.specs.Lawful.{seat_at, Lawful}
 use Rattle.history.specs.Settings.{Where, site_in, cost}
 use Rattle.history.specs.declared.call.Call.{Call}
 use Rattle.history.specs.declared.call.Event.{Event}
 use Rattle.history.proofs.Grants.{answered_cost}
 use Rattle.history.proofs.Held.{standing_of, Held, Known}
 use Rattle.history.proofs.Permuted.{permutation, derivation, one_order}
-use Rattle.history.proofs.Seated.{sites_are, rows_in_order, seats_in_order}
+use Rattle.history.proofs.Seated.{sites_are}
 use Rattle.history.proofs.Steps.{holds_empty, held_step, law_step}
 use Rattle.history.proofs.Unique.{one_where}
 
@@ -47,9 +49,9 @@ pub record Obeys (price : Price) (history : List Event) (t : Tables) : Type 0 wh
   pub law : Law price history (where_is t)
   pub costs : floor_cost price t.seats ≡ cost price (standing_in history) (site_in (where_is t))
   pub rows : IsPermutation (rows_in history) t.rows
-  pub rows_in_order : EveryPair (λ a b. row_ahead a b ≡ true) t.rows
+  pub rows_in_order : Ordered row_ahead t.rows
   pub seats : IsPermutation (map (seat_at (where_is t)) (standing_in history)) t.seats
-  pub seats_in_order : EveryPair (λ s r. stands_ahead s r ≡ true) t.seats
+  pub seats_in_order : Ordered stands_ahead t.seats
 
 -- what a floor with a history holds
 pub obeys_held : {f : Price} {history : List Event} {t : Tables} → Obeys f history t → Held history t
@@ -66,9 +68,9 @@ held_obeys f history t known law held = record {
   law = law;
   costs = sym (answered_cost f t known.well (standing_in history) held.cells_are);
   rows = permutation held.rows_are;
-  rows_in_order = rows_in_order t known.well;
+  rows_in_order = ordered_rows t.rows t.seats known.well;
   seats = permutation (subst (Permᴰ (map (seat_at (where_is t)) (standing_in history))) (seats_back (where_is t) t.seats (sites_are t known.well)) (perm.map (seat_at (where_is t)) held.cells_are));
-  seats_in_order = seats_in_order t known.well;
+  seats_in_order = formed_standing t.rows t.seats known.well;
 }
 
 -- an empty floor has the empty history
@@ -113,13 +115,13 @@ pub one_tables : (f : Price) (history : List Event) (a b : Tables) → Obeys f h
 one_tables f history a b of_a of_b =
     let held_a = obeys_held of_a in
     let held_b = obeys_held of_b in
-    let rows = one_order (λ x y. row_ahead x y ≡ true) row_once a.rows b.rows (Permᴰ.trans (perm.symm held_a.rows_are) held_b.rows_are) of_a.rows_in_order of_b.rows_in_order in
+    let rows = one_order row_ahead row_once a.rows b.rows (Permᴰ.trans (perm.symm held_a.rows_are) held_b.rows_are) of_a.rows_in_order of_b.rows_in_order in
     let same : where_is a ≡ where_is b = fun_ext (one_where f history (where_is a) (where_is b) of_a.law of_b.law) in
     let ks = standing_in history in
     let own = derivation (map (seat_at (where_is a)) ks) a.seats of_a.seats in
     let other = derivation (map (seat_at (where_is b)) ks) b.seats of_b.seats in
     let both : Permᴰ a.seats b.seats = Permᴰ.trans (perm.symm own) (subst (λ w. Permᴰ (map (seat_at w) ks) b.seats) (sym same) other) in
-    let seats = one_order (λ x y. stands_ahead x y ≡ true) stands_once a.seats b.seats both of_a.seats_in_order of_b.seats_in_order in
+    let seats = one_order stands_ahead stands_once a.seats b.seats both of_a.seats_in_order of_b.seats_in_order in
     λ i. record { rows = rows i; seats = seats i }
 
 -- what a floor's type tells of its tables

@@ -1,11 +1,11 @@
 -- Permutations: std's, and mathlib's derivations of them, one from the other; and ordered lists that are permutations of one another are one.
-use Rattle.std.proofs.Common.{◌≡◌, ℕ, zero, suc, ◌<◌, ◌⊎◌, List, [], ◌∷◌, length, get_or, set, sym, refl, ◌∙◌, subst, inl, inr, arith}
+use Rattle.std.proofs.Common.{◌≡◌, ℕ, zero, suc, ◌<◌, ◌⊎◌, Bool, true, List, [], ◌∷◌, length, get_or, set, sym, refl, ◌∙◌, subst, inl, inr, arith}
 use Rattle.std.proofs.lemmas.List.Sorted.{IsPermutation-refl, IsPermutation-trans, IsPermutation-cons, IsPermutation-swap, IsPermutation-keeps}
 use Rattle.std.specs.List.{swap, AllByRecursion}
 use Rattle.std.specs.Prelude.{IsPermutation}
 use mathlib.Core.List.{Permᴰ}
 use mathlib.Core.List.Permᴰ as perm
-use Rattle.row.specs.Settings.{EveryPair}
+use Rattle.table.specs.Order.{Ordered}
 
 -- std's permutation of a derivation
 pub permutation : {X : Type 0} {xs ys : List X} → Permᴰ xs ys → IsPermutation xs ys
@@ -63,22 +63,23 @@ holds_of P x [] all here = absurd here
 holds_of P x (y ∷ ys) all (inl is) = subst P (sym is) all.0
 holds_of P x (y ∷ ys) all (inr later) = holds_of P x ys all.1 later
 
-module _ {X : Type 0} (R : X → X → Type 0) (once : (x y : X) → R x y → R y x → ⊥) where
+module _ {X : Type 0} (ahead : X → X → Bool) (once : (x y : X) → ahead x y ≡ true → ahead y x ≡ true → ⊥) where
   -- two ordered lists with the same elements have the same first ..
-  same_first : (x y : X) (xs ys : List X) → EveryPair R (x ∷ xs) → EveryPair R (y ∷ ys) → In x (y ∷ ys) → In y (x ∷ xs) → x ≡ y
+  same_first : (x y : X) (xs ys : List X) → Ordered ahead (x ∷ xs) → Ordered ahead (y ∷ ys) → In x (y ∷ ys) → In y (x ∷ xs) → x ≡ y
   same_first x y xs ys a b (inl is) there = is
   same_first x y xs ys a b (inr later) (inl is) = sym is
-  same_first x y xs ys a b (inr later) (inr other) = absurd (once x y (holds_of (R x) y xs a.0 other) (holds_of (R y) x ys b.0 later))
+  same_first x y xs ys a b (inr later) (inr other) =
+      absurd (once x y (holds_of (λ z. ahead x z ≡ true) y xs a.0 other) (holds_of (λ z. ahead y z ≡ true) x ys b.0 later))
 
   -- .. and the others of one are others of the other
-  others : (x y : X) (xs ys : List X) → x ≡ y → EveryPair R (x ∷ xs) → (z : X) → In z xs → In z (y ∷ ys) → In z ys
+  others : (x y : X) (xs ys : List X) → x ≡ y → Ordered ahead (x ∷ xs) → (z : X) → In z xs → In z (y ∷ ys) → In z ys
   others x y xs ys same a z here (inl is) =
-      let again : R x x = subst (R x) (is ∙ sym same) (holds_of (R x) z xs a.0 here) in
+      let again : ahead x x ≡ true = subst (λ w. ahead x w ≡ true) (is ∙ sym same) (holds_of (λ w. ahead x w ≡ true) z xs a.0 here) in
       absurd (once x x again again)
   others x y xs ys same a z here (inr later) = later
 
   -- so they are one
-  one_list : (xs ys : List X) → EveryPair R xs → EveryPair R ys → ((z : X) → In z xs → In z ys) → ((z : X) → In z ys → In z xs) → xs ≡ ys
+  one_list : (xs ys : List X) → Ordered ahead xs → Ordered ahead ys → ((z : X) → In z xs → In z ys) → ((z : X) → In z ys → In z xs) → xs ≡ ys
   one_list [] [] a b to back = refl
   one_list [] (y ∷ ys) a b to back = absurd (back y (inl refl))
   one_list (x ∷ xs) [] a b to back = absurd (to x (inl refl))
@@ -90,5 +91,5 @@ module _ {X : Type 0} (R : X → X → Type 0) (once : (x y : X) → R x y → R
       λ i. first i ∷ rest i
 
   -- ordered permutations of one another are one
-  pub one_order : (xs ys : List X) → Permᴰ xs ys → EveryPair R xs → EveryPair R ys → xs ≡ ys
+  pub one_order : (xs ys : List X) → Permᴰ xs ys → Ordered ahead xs → Ordered ahead ys → xs ≡ ys
   one_order xs ys d a b = one_list xs ys a b (λ z. carried z d) (λ z. carried z (perm.symm d))

@@ -1,7 +1,7 @@
 -- The tables of a well-formed floor in the words of standing cells: what where_is answers, that its answers are a setting, and what the cells of one row are.
-use Rattle.std.proofs.Common.{◌≡◌, ℕ, ◌+◌, ◌≤◌, true, false, not, ◌&&◌, eqb, ltb, List, [], ◌∷◌, map, length, Some, None, Ok, Err, sym, refl, ap, ◌∙◌, subst, ⊎_elim, arith}
+use Rattle.std.proofs.Common.{◌≡◌, ℕ, ◌+◌, ◌≤◌, true, false, not, ◌&&◌, eqb, List, [], ◌∷◌, map, length, Some, None, Ok, Err, sym, refl, ap, ◌∙◌, subst, ⊎_elim, arith}
 use Rattle.std.proofs.ByRecursion.{All-weaker, All-map, all_kept_by, kept_by_passes}
-use Rattle.std.proofs.lemmas.Bool.{cond-true, cond-false, eq-eqb, and_parts, or_cases, or_left, or_right, and_from, lt-ltb}
+use Rattle.std.proofs.lemmas.Bool.{cond-true, cond-false, eq-eqb, and_parts, or_cases}
 use Rattle.std.proofs.lemmas.List.{length-map}
 use Rattle.std.specs.List.{AllByRecursion}
 use Rattle.std.specs.Option.{option_map, ok_or}
@@ -17,7 +17,6 @@ use Rattle.floor.specs.Calls.{seat_of, spot, where_is}
 use Rattle.floor.specs.Formed.{formed}
 use Rattle.floor.specs.Refusals.{stands_by}
 use Rattle.floor.specs.Seats.{on_row, seat_ahead, seats_on, cells_on}
-use Rattle.floor.specs.Rows.{same_row}
 use Rattle.floor.specs.Tables.{Tables}
 use Rattle.floor.specs.declared.Refusal.TheVariants.{NotStanding}
 use Rattle.floor.specs.declared.Seat.{Seat}
@@ -30,7 +29,6 @@ use Rattle.floor.proofs.Rowed.{ordered_rows}
 use Rattle.floor.proofs.Tests.{none_any, ordered_pairs}
 use Rattle.history.specs.Histories.{cell_of, row_of}
 use Rattle.history.specs.Settings.{site_in, site_answered, placed, OnOneRow, Setting}
-use Rattle.history.specs.Lawful.{stands_ahead}
 use Rattle.history.proofs.Held.{standing_of}
 
 -- what holds of all of a mapped list holds of all of the list
@@ -156,24 +154,7 @@ tables_setting t well =
     (each_own Inside t.seats (λ r. kept_passing (on_row r) Inside t.seats (sited r).inside))
     (seats_apart t well)
 
--- of two such seats the first stands ahead of the second
-stands_first : (s t : Seat) → 1 ≤ s.cell.width → Apart s t → stands_ahead s t ≡ true
-stands_first s t wide apart =
-    ⊎_elim (λ other. or_left (row_ahead s.row t.row) (same_row s.row t.row && ltb s.site t.site) other)
-    (λ own.
-    let on = (and_parts (on_row t.row s) (before s.cell t.cell) own).0 in
-    let after = apart.clear on in
-    or_right (row_ahead s.row t.row) (same_row s.row t.row && ltb s.site t.site) (and_from (same_row s.row t.row) (ltb s.site t.site) on (lt-ltb s.site t.site (omega arith))))
-    (or_cases (row_ahead s.row t.row) (on_row t.row s && before s.cell t.cell) apart.ahead)
-
--- so the seats are in row order and then by site
-pub seats_in_order : (t : Tables) → formed t.rows t.seats ≡ true → EveryPair (λ s r. stands_ahead s r ≡ true) t.seats
-seats_in_order t well =
-    let wides = All-weaker (λ s. Passes s.cell) (λ s. 1 ≤ s.cell.width) (λ s passes. wide s.cell passes) t.seats (formed_listed t.rows t.seats well).pass in
-    pairs_with (λ s r. (1 ≤ s.cell.width) × (1 ≤ r.cell.width)) Apart (λ s r. stands_ahead s r ≡ true) (λ s r wide apart. stands_first s r wide.0 apart) t.seats
-    (pairs_both (λ s. 1 ≤ s.cell.width) t.seats wides) (seats_apart t well)
-
--- and the rows are in row order
+-- the rows are in row order
 pub rows_in_order : (t : Tables) → formed t.rows t.seats ≡ true → EveryPair (λ a b. row_ahead a b ≡ true) t.rows
 rows_in_order t well = ordered_pairs row_ahead t.rows (ordered_rows t.rows t.seats well)
 

@@ -85,8 +85,8 @@ abbrev pub standing_in : List Event → List Standing
 standing_in [] = []
 standing_in (event ∷ earlier) = standing_after event (rows_in earlier) (standing_in earlier)
 
--- what the checks decide on a call, from what stands before it: the refusal of the first that fails,
--- or none
+-- what the checks decide on a call, from what stands before it: the refusal of the first that
+-- fails, or none
 abbrev pub decide : List Row → List Standing → Call → Option Refusal
 decide rows standing (AddRow row) = add_refusal rows row
 decide rows standing (Place cell) = place_refusal_by cell_of row_of rows standing cell

@@ -14,9 +14,10 @@ use Rattle.history.specs.Settings.{Where, site_in, Setting, cost}
 use Rattle.history.specs.declared.call.Event.{Event}
 use Rattle.history.specs.declared.call.Event.TheVariants as event
 
--- While these cells stand, where_is answers for each its row's line and a site, and for every other
--- number that it does not stand. The setting that these sites are is legal and in wanted order; every
--- other such setting costs at least as much, and one that costs the same has no cell further left.
+-- While these cells stand, where_is answers for each its row's line and a site, and for every
+-- other number that it does not stand. The setting that these sites are is legal and in wanted
+-- order; every other such setting costs at least as much, and one that costs the same has no cell
+-- further left.
 pub record Holds (price : Price) (standing : List Standing) (where_is : Where) : Type 0 where
   pub found :
       AllByRecursion
@@ -32,10 +33,10 @@ pub record Holds (price : Price) (standing : List Standing) (where_is : Where) :
       → cost price standing other ≡ cost price standing (site_in where_is)
       → AllByRecursion (λ k. site_in where_is k.cell.number ≤ other k.cell.number) standing
 
--- A placing of this cell was granted while these rows and cells stood, with these answers of where_is
--- before and after it. It answers where the cell stands then, and what the floor costs more. Had the
--- cell gone to another row, all others staying on theirs, every legal setting in wanted order would
--- cost at least as much, and more on a row that is ahead.
+-- A placing of this cell was granted while these rows and cells stood, with these answers of
+-- where_is before and after it. It answers where the cell stands then, and what the floor costs
+-- more. Had the cell gone to another row, all others staying on theirs, every legal setting in
+-- wanted order would cost at least as much, and more on a row that is ahead.
 pub record Granted (price : Price) (rows : List Row) (earlier : List Standing) (before : Where)
     (cell : Cell) (placing : Placing) (after : Where) : Type 0 where
   pub stands : after cell.number ≡ Ok placing.spot
@@ -55,8 +56,8 @@ pub record Granted (price : Price) (rows : List Row) (earlier : List Standing) (
       < cost price (with_cell cell row earlier) other)
       rows
 
--- A placing or a try is refused because no row has sites exactly when every earlier check passes and
--- no row has sites for the cell beside the cells that stand there.
+-- A placing or a try is refused because no row has sites exactly when every earlier check passes
+-- and no row has sites for the cell beside the cells that stand there.
 abbrev pub FullExactly : List Row → List Standing → Cell → Result Placing Refusal → Type 0
 FullExactly rows standing cell answer =
     (answer ≡ Err NoRoom)
@@ -64,9 +65,9 @@ FullExactly rows standing cell answer =
     × AllByRecursion (λ row. has_sites_by cell_of row_of standing cell row ≡ false) rows)
 
 -- What holds of an answer besides, with the rows and cells that stood and the answers of where_is
--- before and after. A granted try answers what a placing of the same cell in its stead would have: with
--- some answers of where_is after it, such a placing obeys the law. A withdrawal answers what where_is
--- gave for its number before.
+-- before and after. A granted try answers what a placing of the same cell in its stead would have:
+-- with some answers of where_is after it, such a placing obeys the law. A withdrawal answers what
+-- where_is gave for its number before.
 abbrev pub Answers : Price → List Row → List Standing → Where → Event → Where → Type 0
 Answers price rows earlier before (event.Added row answer) after = ⊤
 Answers price rows earlier before (event.Placed cell answer) after =
@@ -79,9 +80,9 @@ Answers price rows earlier before (event.Tried cell answer) after =
     × Holds price (with_placed rows earlier cell placing) instead)
 Answers price rows earlier before (event.Withdrawn number answer) after = answer ≡ before number
 
--- An event after a history, with the answers of where_is before and after it: its call is granted, or
--- refused by the first check that fails, as the checks decide from what stands before it; its answer
--- is as it must be; and what where_is answers after it is as it must be.
+-- An event after a history, with the answers of where_is before and after it: its call is granted,
+-- or refused by the first check that fails, as the checks decide from what stands before it; its
+-- answer is as it must be; and what where_is answers after it is as it must be.
 pub record Step (price : Price) (earlier : List Event) (before : Where) (e : Event)
     (after : Where) : Type 0 where
   pub decided : refused e ≡ decide (rows_in earlier) (standing_in earlier) (call_of e)

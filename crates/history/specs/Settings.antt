@@ -46,7 +46,7 @@ pub record Setting (standing : List Standing) (at : ℕ → ℕ) : Type 0 where
   pub legal : Legal standing at
   pub in_order : InWantedOrder standing at
 
--- what a setting costs: for each standing cell, its site against the wanted site, and its row's line
--- against the wanted line
+-- what a setting costs: for each standing cell, its site against the wanted site, and its row's
+-- line against the wanted line
 abbrev pub cost : Price → List Standing → (ℕ → ℕ) → ℕ
 cost price standing at = costs_by cell_of row_of (λ k. at k.cell.number) price standing

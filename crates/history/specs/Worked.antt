@@ -157,7 +157,9 @@ twelve =
     -- 9: row 0 to 10, cells 7 and 5, both 2/2: cell 5 at 1 and cell 7 at 3, cost 2; `set` takes
     -- them in wanted order, 5 before 7
     ∷ (sets Squared (row 0 10) (cell 5 2 2 ∷ cell 7 2 2 ∷ []) (1 ∷ 3 ∷ []) 2
-    ∷ leaves Squared (filling (row 0 10) (cell 7 2 2 ∷ cell 5 2 2 ∷ [])) (at 5 0 1 ∷ at 7 0 3 ∷ []) 2
+    ∷ leaves Squared
+    (filling (row 0 10) (cell 7 2 2 ∷ cell 5 2 2 ∷ []))
+    (at 5 0 1 ∷ at 7 0 3 ∷ []) 2
     ∷ [])
     -- 10: row 0 to 10 on line 0, 3/4 placed, then row 0 to 10 on line 1: placing 4/2 goes to
     -- line 1, site 4, rise 1
