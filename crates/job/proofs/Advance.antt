@@ -184,7 +184,7 @@ passed s c is = by_test (ltb s.place (length s.job)) is
     by_test false e = absurd (cc)
 
 -- where there is no record, the job has ended
-ended : (s : Standing) → Ok None ≡ next_answer s → (next_standing s ≡ s) × (length s.job ≤ s.place)
+pub ended : (s : Standing) → Ok None ≡ next_answer s → (next_standing s ≡ s) × (length s.job ≤ s.place)
 ended s is =
     cond_both (ltb s.place (length s.job)) (part_answer s.index (read_record s.job s.place)) (Ok None)
     (λ answer. Ok None ≡ answer → (next_standing s ≡ s) × (length s.job ≤ s.place)) (λ more e. none (read_record s.job s.place) e) (λ done e. (ap (λ b. cond b (part_standing s (read_record s.job s.place)) s) done, ltb-false s.place (length s.job) done)) is
@@ -194,7 +194,7 @@ ended s is =
     none (Err flaw) e = absurd (cc)
 
 -- a fault leaves the reader where it was
-stays : (s : Standing) (fault : Fault) → Err fault ≡ next_answer s → next_standing s ≡ s
+pub stays : (s : Standing) (fault : Fault) → Err fault ≡ next_answer s → next_standing s ≡ s
 stays s fault is = by_test (ltb s.place (length s.job)) is
   where
     by_part : (part : Part Content) → Err fault ≡ part_answer s.index part → part_standing s part ≡ s

@@ -5,10 +5,10 @@ use Rattle.measure.specs.declared.name.MeasureName.{MeasureName}
 use Rattle.job.specs.Format.{Content}
 use Rattle.job.specs.Opening.{Opened, opening, open_answer}
 use Rattle.job.specs.Reading.{Standing, Passed, at_start, next_answer, next_standing}
-use Rattle.job.specs.Records.{Rest, AllLeft, NoneLeft, Takes, with_answer, rest_within, rest_of, records_of, fault_of, opened_rest}
+use Rattle.job.specs.Records.{Rest, AllLeft, NoneLeft, Takes, with_answer, rest_within, rest_of, records_of, fault_of, index_after, opened_rest}
 use Rattle.job.specs.declared.record.Cause.{Cause}
 use Rattle.job.specs.declared.record.Fault.{Fault}
-use Rattle.job.proofs.Advance.{passed}
+use Rattle.job.proofs.Advance.{ended, passed, stays}
 
 -- more answers than there are bytes left
 abbrev Enough : ℕ → Standing → Type 0
@@ -40,11 +40,17 @@ rest_is s =
     let long : length (next_standing s).job ≡ length s.job = ap length moves.same in
     same_rest (length s.job) (length (next_standing s).job + 1) (next_standing s) (omega (arith, moves.forward, moves.within)) (omega (arith, moves.forward, moves.within))))
 
+-- the index counts the records
+counted : (s t : Standing) (a : Result (Option Content) Fault) → a ≡ next_answer s → t ≡ next_standing s → t.index ≡ index_after a s.index
+counted s t (Ok None) answer after = ap (λ (u : Standing). u.index) (after ∙ (ended s answer).0)
+counted s t (Ok (Some c)) answer after = ap (λ (u : Standing). u.index) after ∙ (passed s c answer).counted
+counted s t (Err fault) answer after = ap (λ (u : Standing). u.index) (after ∙ stays s fault answer)
+
 -- a call that answered so, and left the reader so, took the first of what was left
 pub takes : {s t : Standing} {a : Result (Option Content) Fault} → a ≡ next_answer s → t ≡ next_standing s → Takes s a t
 takes {s} {t} {a} answer after =
     let is : rest_of s ≡ with_answer a (rest_of t) = rest_is s ∙ (λ i. with_answer (sym answer i) (rest_of (sym after i))) in
-    record { records = ap (λ (r : Rest). r.records) is; fault = ap (λ (r : Rest). r.fault) is }
+    record { records = ap (λ (r : Rest). r.records) is; fault = ap (λ (r : Rest). r.fault) is; index = counted s t a answer after }
 
 -- what is answered by what the first byte names
 abbrev answer_by : List ℕ → Result MeasureName Cause → Result Opened Fault

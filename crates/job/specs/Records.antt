@@ -70,7 +70,15 @@ pub record NoneLeft (bytes : List ℕ) (refused : Fault) : Type 0 where
   pub records : records_of bytes ≡ []
   pub fault : fault_of bytes ≡ Some refused
 
--- an answer is the first of the records that are left, or none is left and it is the fault that is left
+-- the index after an answer
+abbrev pub index_after : Result (Option Content) Fault → ℕ → ℕ
+index_after (Ok None) before = before
+index_after (Ok (Some c)) before = before + 1
+index_after (Err fault) before = before
+
+-- An answer is the first of the records that are left, and the index counts it; or none is left, and
+-- it is the fault that is left.
 pub record Takes (from : Standing) (answer : Result (Option Content) Fault) (to : Standing) : Type 0 where
   pub records : records_left from ≡ records_before answer (records_left to)
   pub fault : fault_left from ≡ fault_before answer (fault_left to)
+  pub index : to.index ≡ index_after answer from.index

@@ -37,6 +37,20 @@ impl Cause {
     {
         self as u32
     }
+
+    /// Why a job or a record is refused, in words.
+    pub fn reason(self) -> &'static str
+        ensures { result.now ≡ reason self }
+    {
+        match self {
+            Cause::TooLong => "the job is longer than 65535 bytes",
+            Cause::EndsEarly => "the job ends too early",
+            Cause::UnknownKind => "the kind is unknown",
+            Cause::WrongMap => "the bit map lacks a required bit or has one that its kind lacks",
+            Cause::BadName => "a name of length 0 or with a byte outside 0x21 to 0x7E",
+            Cause::UnknownMeasure => "the first byte names no measure",
+        }
+    }
 }
 
 impl From<UnknownMeasure> for Cause {
@@ -52,14 +66,7 @@ impl fmt::Display for Cause {
     ghost output = { λ cause. Some (reason cause) };
 
     fn fmt<W: fmt::Write>(&self, f: &mut fmt::Formatter<W>) -> fmt::Result {
-        f.write_str(match self {
-            Cause::TooLong => "the job is longer than 65535 bytes",
-            Cause::EndsEarly => "the job ends too early",
-            Cause::UnknownKind => "the kind is unknown",
-            Cause::WrongMap => "the bit map lacks a required bit or has one that its kind lacks",
-            Cause::BadName => "a name of length 0 or with a byte outside 0x21 to 0x7E",
-            Cause::UnknownMeasure => "the first byte names no measure",
-        })
+        f.write_str(self.reason())
     }
 }
 
