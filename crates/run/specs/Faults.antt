@@ -1,5 +1,6 @@
 -- The faults of a run, by number, as lines and in words.
 use Rattle.std.specs.Prelude.{ℕ, List, Option}
+use Rattle.floor.specs.Reasons.{reason}
 use Rattle.floor.specs.Refusals as refusals
 use Rattle.job.specs.Causes as causes
 use Rattle.lines.specs.Texts.{refused_text, unreadable_text}
@@ -15,3 +16,8 @@ fault_number (Refused refusal) = refusals.number_of refusal
 abbrev pub fault_text : ℕ → Option (List ℕ) → Fault → List ℕ
 fault_text index name (Unread unread) = unreadable_text unread.index (causes.number_of unread.cause) unread.place
 fault_text index name (Refused refusal) = refused_text index (refusals.number_of refusal) name
+
+-- the words: those of the reader's fault, or of the floor's refusal
+abbrev pub fault_words : Fault → List ℕ
+fault_words (Unread unread) = causes.fault_text unread
+fault_words (Refused refusal) = reason refusal

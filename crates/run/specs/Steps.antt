@@ -1,7 +1,8 @@
 -- What the calls of a run answer, and what they leave.
-use Rattle.std.specs.Prelude.{ℕ, List, length, Some, None, Ok, Err, Option, Result, slice_get, if◌then◌else◌}
+use Rattle.std.specs.Prelude.{ℕ, List, length, codes, Some, None, Ok, Err, Option, Result, slice_get, if◌then◌else◌}
 use Rattle.std.specs.Option.{option_map}
 use Rattle.measure.specs.Costs.{Price}
+use Rattle.floor.specs.Reasons.{reason}
 use Rattle.floor.specs.Refusals as refusals
 use Rattle.floor.specs.Seats.{floor_cost}
 use Rattle.floor.specs.Tables.{Tables}
@@ -48,6 +49,11 @@ module _ (price : Price) where
 abbrev pub no_line_number : NoLine → ℕ
 no_line_number (ShortBuffer refused) = writes.number_of refused
 no_line_number NotStanding = refusals.number_of refusal.NotStanding
+
+-- its words
+abbrev pub no_line_words : NoLine → List ℕ
+no_line_words (ShortBuffer refused) = codes "the line buffer is shorter than 320 bytes"
+no_line_words NotStanding = reason refusal.NotStanding
 
 -- the line of a seat: its cell's number, its row's line, and its site
 abbrev pub seat_text : Seat → List ℕ

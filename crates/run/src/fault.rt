@@ -1,12 +1,14 @@
 // Why a record is not carried out.
-ghost use Rattle.std.specs.Prelude.{◌≡◌};
+ghost use Rattle.std.specs.Prelude.{◌≡◌, Some};
 ghost use Rattle.lines.specs.Texts.{named, text};
-ghost use Rattle.run.specs.Faults.{fault_number, fault_text};
+ghost use Rattle.run.specs.Faults.{fault_number, fault_text, fault_words};
 ghost use Rattle.run.specs.declared.fault.Fault.TheVariants as fault;
 
 use floor::Refusal;
 use job::Name;
 use lines::Line;
+use std::error::Error;
+use std::fmt;
 
 /// The fault of a run: a record cannot be read, which ends the job, or the floor refuses it.
 /// What is printed of it is a line with its number.
@@ -31,6 +33,20 @@ impl From<Refusal> for Fault {
         Fault::Refused(refusal)
     }
 }
+
+// What the reader or the floor says.
+impl fmt::Display for Fault {
+    ghost output = { λ fault. Some (fault_words fault) };
+
+    fn fmt<W: fmt::Write>(&self, f: &mut fmt::Formatter<W>) -> fmt::Result {
+        match self {
+            Fault::Unread(unread) => unread.fmt(f),
+            Fault::Refused(refusal) => refusal.fmt(f),
+        }
+    }
+}
+
+impl Error for Fault {}
 
 impl Fault {
     /// The number of the reader's refusal (12 to 19) or of the floor's (1 to 11).

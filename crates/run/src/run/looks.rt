@@ -1,14 +1,18 @@
 // The lines of what stands: where each cell stands, and what the floor costs.
-ghost use Rattle.std.specs.Prelude.{◌≡◌, ◌≤◌, IfOk};
+ghost use Rattle.std.specs.Prelude.{◌≡◌, ◌≤◌, IfOk, OnOk, Some};
+ghost use Rattle.floor.specs.Seats.{stands_ahead};
 ghost use Rattle.lines.specs.Writes.{write_answer, write_buffer};
 ghost use Rattle.run.specs.State.{price_in, state};
-ghost use Rattle.run.specs.Steps.{cell_answer, cell_buffer, costs_text, no_line_number};
+ghost use Rattle.run.specs.Steps.{cell_answer, cell_buffer, costs_text, no_line_number, no_line_words};
+ghost use Rattle.table.specs.Order.{Ordered};
 ghost use Rattle.run.specs.declared.run.looks.NoLine.TheVariants as no_line;
 
 use crate::run::Run;
 use floor::Refusal;
 use lines::{LEAST_BUFFER, Line, ShortBuffer};
 use measure::Measure;
+use std::error::Error;
+use std::fmt;
 
 /// Why there is no line of a cell: the buffer is shorter than 320 bytes (20), or no cell stands at this place in the order (8).
 #[derive(Clone, Copy, PartialEq, Eq, Debug)]
@@ -24,6 +28,20 @@ impl From<ShortBuffer> for NoLine {
         NoLine::ShortBuffer(short)
     }
 }
+
+// What the buffer's refusal or the floor's says.
+impl fmt::Display for NoLine {
+    ghost output = { λ no_line. Some (no_line_words no_line) };
+
+    fn fmt<W: fmt::Write>(&self, f: &mut fmt::Formatter<W>) -> fmt::Result {
+        match self {
+            NoLine::ShortBuffer(short) => short.fmt(f),
+            NoLine::NotStanding => Refusal::NotStanding.fmt(f),
+        }
+    }
+}
+
+impl Error for NoLine {}
 
 impl NoLine {
     /// The number of the refusal: 20 or 8.
@@ -43,6 +61,7 @@ impl<'a, M: Measure> Run<'a, M> {
     pub fn cell_line(&self, k: usize, buffer: &mut [u8]) -> Result<usize, NoLine>
         ensures answer { result ≡ cell_answer (state self.now).tables k buffer.old }
         ensures after { buffer.new ≡ cell_buffer (state self.now).tables k buffer.old }
+        ensures in_order { OnOk result (Ordered stands_ahead (state self.now).tables.seats) }
         ensures fits { IfOk result (λ end. end ≤ 320) }
     {
         if buffer.len() < LEAST_BUFFER {
