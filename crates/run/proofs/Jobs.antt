@@ -2,7 +2,6 @@
 use Rattle.std.proofs.Common.{◌≡◌, ℕ, List, [], ◌∷◌, ◌++◌, map, reverse, Ok, Result, Vec, refl, sym, ap, subst, ◌∙◌, append_assoc, append-nil}
 use Rattle.std.specs.declared.alloc.AllocError.{AllocError}
 use Rattle.std.specs.declared.alloc.Global.{Global}
-use Rattle.floor.specs.State.{measure_of, price_of, tables_of}
 use Rattle.floor.specs.Tables.{Tables, no_tables}
 use Rattle.floor.specs.declared.floor.Floor.{Floor}
 use Rattle.history.specs.Events.{event_of, events_of, tables_then}
@@ -10,7 +9,6 @@ use Rattle.history.specs.Histories.{call_of}
 use Rattle.history.specs.Lawful.{Lawful}
 use Rattle.history.specs.declared.call.Call.{Call}
 use Rattle.history.specs.declared.call.Call.TheVariants.{AddRow, Place, Try, Withdraw}
-use Rattle.history.specs.declared.call.Event.{Event}
 use Rattle.job.specs.Opening.{opening}
 use Rattle.lines.specs.Appended.{Appends}
 use Rattle.measure.specs.Costs.{Price}

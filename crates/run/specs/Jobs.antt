@@ -1,5 +1,5 @@
 -- The law of a job: what is printed of it, and the floor that is left.
-use Rattle.std.specs.Prelude.{◌≡◌, ℕ, List, map, reverse, Some, None, Ok, Err, Option, Result, Vec, IsErr}
+use Rattle.std.specs.Prelude.{◌≡◌, ℕ, List, map, reverse, Some, None, Ok, Option, Result, Vec, IsErr}
 use Rattle.std.specs.declared.alloc.Global.{Global}
 use Rattle.floor.specs.State.{measure_of, price_of, tables_of}
 use Rattle.floor.specs.declared.floor.Floor.{Floor}

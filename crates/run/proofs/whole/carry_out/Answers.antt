@@ -5,7 +5,7 @@ use Rattle.lines.specs.Appended.{Appends}
 use Rattle.measure.specs.Names.{named_price}
 use Rattle.run.specs.Parts.{rest_events, rest_lines}
 use Rattle.run.specs.Started.{started}
-use Rattle.run.specs.State.{measure_in, price_in, state}
+use Rattle.run.specs.State.{price_in, state}
 use Rattle.run.specs.Texts.{cell_lines, lines_with}
 use Rattle.run.proofs.Jobs.{all_put, job_law, job_says}
 use Rattle.run.proofs.whole.carry_out.Goals as goal

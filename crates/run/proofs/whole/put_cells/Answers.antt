@@ -1,4 +1,4 @@
-use Rattle.std.proofs.Common.{◌≡◌, [], ◌++◌, take, append-nil, sym, ap, subst, ◌∙◌, take_all, arith}
+use Rattle.std.proofs.Common.{◌≡◌, ◌++◌, take, append-nil, sym, ap, subst, ◌∙◌, take_all, arith}
 use Rattle.std.proofs.lemmas.Option.{slice_get_within}
 use Rattle.lines.specs.Appended.{Appends}
 use Rattle.run.specs.State.{state}

@@ -1,4 +1,4 @@
-use Rattle.std.proofs.Common.{◌≡◌, ℕ, ◌≤◌, List, ◌++◌, Vec, length, take}
+use Rattle.std.proofs.Common.{ℕ, ◌≤◌, List, ◌++◌, Vec, length, take}
 use Rattle.std.specs.declared.alloc.Global.{Global}
 use Rattle.lines.specs.Appended.{Appends}
 use Rattle.run.specs.State.{state}

@@ -1,4 +1,4 @@
-use Rattle.std.proofs.Common.{◌≡◌, ℕ, length}
+use Rattle.std.proofs.Common.{◌≡◌, length}
 use Rattle.run.proofs.Rests.{SoFar}
 use Rattle.run.proofs.Turns.{left}
 use Rattle.run.specs.State.{state}
