@@ -37,14 +37,20 @@ impl fmt::Display for Complaint {
             Complaint::NoJob => f.write_str(
                 "legalize: standard input is empty. A job in the binary format is expected there, as in: legalize < tile.job",
             ),
-            Complaint::Unread(Fault {
-                cause, place: 0, ..
-            }) => write!(f, "legalize: the job cannot be opened: {cause}"),
-            Complaint::Unread(Fault {
-                cause,
-                index,
-                place,
-            }) => write!(
+            Complaint::Unread(
+                Fault {
+                    cause,
+                    place: 0,
+                    ..
+                },
+            ) => write!(f, "legalize: the job cannot be opened: {cause}"),
+            Complaint::Unread(
+                Fault {
+                    cause,
+                    index,
+                    place,
+                },
+            ) => write!(
                 f,
                 "legalize: the job cannot be read on from record {index}, byte {place}: {cause}"
             ),

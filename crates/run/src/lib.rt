@@ -12,6 +12,6 @@ mod transfers;
 mod whole;
 
 pub use fault::Fault;
-pub use run::{NoLine, Run, Step};
 pub use legalizing::{Ending, Failure, MOST_READ, legalize};
+pub use run::{NoLine, Run, Step};
 pub use whole::{CarriedOut, carry_out};

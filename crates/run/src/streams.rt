@@ -5,10 +5,9 @@ ghost use Rattle.std.specs.Io.KnownBytes.{Appends, ReadConsumes, WriteAppends};
 ghost use Rattle.std.specs.Fmt.{with_newline};
 
 use std::error::Error;
-use std::fmt;
 use std::fmt::Display;
-use std::io;
 use std::io::{ErrorKind, Read, Write};
+use std::{fmt, io};
 
 /// Why a read failed. Only [`read_some`] makes one.
 #[derive(Clone, Copy, Debug)]

@@ -6,7 +6,8 @@ use std::process::ExitCode;
 use std::test::Fail;
 
 // A row of ten sites, a cell, a cell with a name, and one for which no sites are left: 30 bytes.
-const JOB: &[u8] = b"\x00\x01\x04\x0A\x00\x02\x0B\x01\x00\x03\x00\x04\x00\x02\x2B\x02\x00\x04\x00\x02\x00\x02\x66\x66\x02\x09\x03\x00\x05\x00";
+const JOB: &[u8] =
+    b"\x00\x01\x04\x0A\x00\x02\x0B\x01\x00\x03\x00\x04\x00\x02\x2B\x02\x00\x04\x00\x02\x00\x02\x66\x66\x02\x09\x03\x00\x05\x00";
 
 // What it says.
 const LINES: &[u8] = b"0 ok\n1 ok 0 3 0\n2 ok 0 5 5 ff\n3 no 7\n1 0 1\n2 0 5\ncost 5\n";
@@ -72,19 +73,24 @@ fn jobs(rt: HostRuntime) -> Result<(), Fail> {
     Ok(())
 }
 
-// An input with no end is refused like one that is too long, and 65,536 bytes of it are read.
+// An input with no end is refused like one that is too long.
 #[test]
 fn endless(rt: HostRuntime) -> Result<(), Fail> {
     let (mut said, mut out) = (Vec::new(rt.alloc()), Vec::new(rt.alloc()));
     let mut err = Vec::new(rt.alloc());
+    let (lines, sentence): (&[u8], &[u8]) = (
+        b"0 bad 12 0\n",
+        b"legalize: the job cannot be opened: the job is longer than 65535 bytes\n",
+    );
     let ending = legalize(&mut said, &mut io::repeat(1), &mut out, &mut err);
-    assert_eq!(rt; out.as_slice(), b"0 bad 12 0\n");
-    assert_eq!(rt; err.as_slice(), b"legalize: the job cannot be opened: the job is longer than 65535 bytes\n");
+    assert_eq!(rt; out.as_slice(), lines);
+    assert_eq!(rt; err.as_slice(), sentence);
     assert!(rt; !succeeds(ending.status));
     Ok(())
 }
 
 // An input that gives a byte a call, and at its end fails or not.
+#[derive(Drop)]
 struct Trickle {
     left: &'static [u8],
     fails: bool,
@@ -127,25 +133,31 @@ impl Write for Narrow {
     }
 }
 
-// What is printed and said, where the input fails or not at its end, and so many bytes of output are taken.
-fn failing(rt: &HostRuntime, fails: bool, room: usize, lines: &[u8], sentence: &[u8]) -> Result<(), Fail> {
-    let (mut said, mut err) = (Vec::new(rt.alloc()), Vec::new(rt.alloc()));
-    let mut input = Trickle { left: JOB, fails };
-    let mut out = Narrow {
-        taken: Vec::new(rt.alloc()),
-        room,
-    };
-    let ending = legalize(&mut said, &mut input, &mut out, &mut err);
-    assert_eq!(rt; out.taken.as_slice(), lines);
-    assert_eq!(rt; err.as_slice(), sentence);
-    assert_eq!(rt; succeeds(ending.status), sentence.is_empty());
-    assert_eq!(rt; ending.failure.is_none(), sentence.is_empty());
-    Ok(())
-}
-
 #[test]
 fn streams(rt: HostRuntime) -> Result<(), Fail> {
-    failing(&rt, false, 1_000, LINES, b"")?;
-    failing(&rt, true, 1_000, b"", b"legalize: standard input cannot be fetched: the line is cut\n")?;
-    failing(&rt, false, 4, b"0 ok", b"legalize: no room is left\n")
+    // Whether the input fails at its end, how many bytes of output are taken, and what is printed and said then.
+    let cases: [(bool, usize, &[u8], &[u8]); 3] = [
+        (false, 1_000, LINES, b""),
+        (
+            true,
+            1_000,
+            b"",
+            b"legalize: standard input cannot be fetched: the line is cut\n",
+        ),
+        (false, 4, b"0 ok", b"legalize: no room is left\n"),
+    ];
+    for (fails, room, lines, sentence) in cases {
+        let (mut said, mut err) = (Vec::new(rt.alloc()), Vec::new(rt.alloc()));
+        let mut input = Trickle { left: JOB, fails };
+        let mut out = Narrow {
+            taken: Vec::new(rt.alloc()),
+            room,
+        };
+        let ending = legalize(&mut said, &mut input, &mut out, &mut err);
+        assert_eq!(rt; out.taken.as_slice(), lines);
+        assert_eq!(rt; err.as_slice(), sentence);
+        assert_eq!(rt; succeeds(ending.status), sentence.is_empty());
+        assert_eq!(rt; ending.failure.is_none(), sentence.is_empty());
+    }
+    Ok(())
 }

@@ -22,11 +22,7 @@ use std::alloc::AllocError;
 
 // Adds bytes, unless those before them could not be added.
 #[tactic(auto, using(crate::proofs::Putting::put_none, crate::proofs::Putting::put_more))]
-fn put(
-    out: &mut Vec<u8>,
-    added: Result<(), AllocError>,
-    bytes: &[u8],
-) -> Result<(), AllocError>
+fn put(out: &mut Vec<u8>, added: Result<(), AllocError>, bytes: &[u8]) -> Result<(), AllocError>
     ensures { (from : Vec ℕ heap.Global) (said : List ℕ) → Appends from added said out.old
         → Appends from result (said ++ bytes.now) out.new }
 {

@@ -46,6 +46,6 @@ loop-step-preserved c =
     let so_far = c.loop-step.invariant.0 in
     let law = on_ok (answered c.unwrap.ensures c.in-Some.is refl) told.law in (
       so_far_more c.args.out.now c.args.run.now c.loop-step.added c.put-added.result c.loop-step.out c.put-added.new.out c.loop-step.run c.step.new.self (take c.in-Some.step.length c.step.new.buffer) turn.turn_is so_far
-      turn.is turn.state_is turn.line_is (c.put-added.ensures c.args.out.now so_far.said so_far.puts) law c.step.ensures.same,
+          turn.is turn.state_is turn.line_is (c.put-added.ensures c.args.out.now so_far.said so_far.puts) law c.step.ensures.same,
       c.step.auto.buffer ∙ c.loop-step.invariant.1,
     )
