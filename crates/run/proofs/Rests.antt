@@ -1,4 +1,5 @@
--- The records of a job, carried out one after another: what is put, what comes of them, and what is left.
+-- The records of a job, carried out one after another: what is put, what comes of them, and what is
+-- left.
 use Rattle.std.proofs.Common.{◌≡◌, ℕ, List, ◌++◌, reverse, Some, None, Result, Vec, sym, ap, subst, ◌∙◌, append_assoc, append-nil}
 use Rattle.std.specs.declared.alloc.Global.{Global}
 use Rattle.std.specs.declared.alloc.AllocError.{AllocError}

@@ -1,4 +1,5 @@
--- Bytes that a read puts behind those before it, and bytes that a write takes from the front of the rest.
+-- Bytes that a read puts behind those before it, and bytes that a write takes from the front of the
+-- rest.
 use Rattle.std.proofs.Common.{◌≡◌, ℕ, ◌+◌, ◌-◌, ◌≤◌, List, ◌++◌, length, take, drop, sym, ap, ◌∙◌, append_assoc, drop_at, length-take-le, take-append-drop, le_refl}
 use Rattle.std.proofs.lemmas.List.{take_rest}
 use Rattle.std.proofs.lemmas.Slice.{take-put_mid_below}

@@ -1,4 +1,5 @@
--- What is said on standard error of a job that cannot be read to its end, and the status that tells it from others.
+-- What is said on standard error of a job that cannot be read to its end, and the status that tells
+-- it from others.
 use Rattle.std.specs.Prelude.{ℕ, List, [], ◌++◌, length, codes, decimal, Some, None, Option, ◌==◌, if◌then◌else◌}
 use Rattle.job.specs.Causes.{reason}
 use Rattle.job.specs.declared.record.Fault.{Fault}

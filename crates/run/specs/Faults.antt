@@ -14,7 +14,8 @@ fault_number (Refused refusal) = refusals.number_of refusal
 
 -- the line, for a record with this index and a name or none: `K bad N P`, or `K no N` and the name
 abbrev pub fault_text : ℕ → Option (List ℕ) → Fault → List ℕ
-fault_text index name (Unread unread) = unreadable_text unread.index (causes.number_of unread.cause) unread.place
+fault_text index name (Unread unread) =
+    unreadable_text unread.index (causes.number_of unread.cause) unread.place
 fault_text index name (Refused refusal) = refused_text index (refusals.number_of refusal) name
 
 -- the words: those of the reader's fault, or of the floor's refusal

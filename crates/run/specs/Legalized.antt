@@ -1,4 +1,5 @@
--- What a job that is legalized leaves behind: on standard error and as a status, and what a failure leaves.
+-- What a job that is legalized leaves behind: on standard error and as a status, and what a failure
+-- leaves.
 use Rattle.std.specs.Prelude.{ℕ, ◌<◌, List, length, IfSome, Option, Vec, vec_capacity, ⊤}
 use Rattle.std.specs.Io.KnownBytes.{Keeps}
 use Rattle.std.specs.declared.alloc.Global.{Global}
@@ -17,8 +18,8 @@ complaint job = complaint_line job (fault_of job)
 abbrev pub status : List ℕ → ℕ
 status job = status_of (fault_of job)
 
--- what a failure leaves on standard output: of a job that was not fetched, or whose lines memory did not suffice for,
--- nothing; else a first part of the lines
+-- what a failure leaves on standard output: of a job that was not fetched, or whose lines memory
+-- did not suffice for, nothing; else a first part of the lines
 abbrev pub LeavesOut : Option (List ℕ) → Option (List ℕ) → Option (List ℕ) → Failure → Type 0
 LeavesOut input old new (Unfetched why) = Keeps old new
 LeavesOut input old new (Unwritten why) = IfSome input (λ job. WritesPart old new (job_text job))

@@ -6,4 +6,10 @@ use Rattle.run.specs.State.{State}
 
 -- all records of the job are left, on a floor with these tables
 abbrev pub started : List ℕ → Tables → State
-started job tables = record { index = 0; records = records_of job; fault = fault_of job; told = None; tables = tables }
+started job tables = record {
+  index = 0;
+  records = records_of job;
+  fault = fault_of job;
+  told = None;
+  tables = tables;
+}

@@ -11,8 +11,8 @@ use Rattle.job.specs.Records.{records_left, fault_left}
 use Rattle.job.specs.declared.record.Fault.{Fault}
 use Rattle.run.specs.declared.run.Run.{Run}
 
--- the index of the next record, the records that are left, the fault that ends them and is not told yet,
--- the fault that is told, and the floor's tables
+-- the index of the next record, the records that are left, the fault that ends them and is not told
+-- yet, the fault that is told, and the floor's tables
 pub record State : Type 0 where
   pub index : ℕ
   pub records : List Content

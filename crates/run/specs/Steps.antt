@@ -1,5 +1,5 @@
 -- What the calls of a run answer, and what they leave.
-use Rattle.std.specs.Prelude.{ℕ, List, length, codes, Some, None, Ok, Err, Option, Result, slice_get, if◌then◌else◌}
+use Rattle.std.specs.Prelude.{ℕ, List, ◌++◌, length, codes, Some, None, Ok, Err, Option, Result, slice_get, if◌then◌else◌}
 use Rattle.std.specs.Option.{option_map}
 use Rattle.measure.specs.Costs.{Price}
 use Rattle.floor.specs.Reasons.{reason}
@@ -12,8 +12,12 @@ use Rattle.lines.specs.Texts.{cell_text, cost_text}
 use Rattle.lines.specs.Writes as writes
 use Rattle.lines.specs.Writes.{short_buffer, takes_lines, with_text}
 use Rattle.lines.specs.declared.short_buffer.ShortBuffer as short
-use Rattle.run.specs.State.{State}
-use Rattle.run.specs.Turns.{Turn, turn}
+use Rattle.measure.specs.declared.Measure.{Ghosts}
+use Rattle.history.specs.Lawful.{Lawful}
+use Rattle.history.specs.declared.call.Event.{Event}
+use Rattle.run.specs.State.{State, floor_of, price_in, state}
+use Rattle.run.specs.Turns.{Turn, step_events, turn}
+use Rattle.run.specs.declared.run.Run.{Run}
 use Rattle.run.specs.declared.run.Step.{Step}
 use Rattle.run.specs.declared.run.looks.NoLine.{NoLine}
 use Rattle.run.specs.declared.run.looks.NoLine.TheVariants.{ShortBuffer, NotStanding}
@@ -35,7 +39,8 @@ buffer_left buffer (Some t) = with_text t.said.line buffer
 module _ (price : Price) where
   -- what a step answers: none where nothing is left
   abbrev pub step_answer : State → List ℕ → Result (Option Step) short.ShortBuffer
-  step_answer s buffer = if takes_lines buffer then Ok (option_map step_of (turn price s)) else Err short_buffer
+  step_answer s buffer =
+      if takes_lines buffer then Ok (option_map step_of (turn price s)) else Err short_buffer
 
   -- the state after it
   abbrev pub step_state : State → List ℕ → State
@@ -44,6 +49,12 @@ module _ (price : Price) where
   -- the buffer after it
   abbrev pub step_buffer : State → List ℕ → List ℕ
   step_buffer s buffer = if takes_lines buffer then buffer_left buffer (turn price s) else buffer
+
+-- whatever history the floor of a run has, it then has that history with what came of a step
+abbrev pub ExtendsHistory : {M : Type 0} {m : Ghosts M} → Run M m → Run M m → Type 0
+ExtendsHistory old new =
+    (history : List Event) → Lawful history (floor_of old)
+    → Lawful (step_events (price_in old) (state old) ++ history) (floor_of new)
 
 -- the number of the refusal of a line
 abbrev pub no_line_number : NoLine → ℕ
@@ -72,11 +83,14 @@ seat_buffer buffer (Some s) = with_text (seat_text s) buffer
 -- what is answered for the line of the k-th standing cell: the buffer is checked first
 abbrev pub cell_answer : Tables → ℕ → List ℕ → Result ℕ NoLine
 cell_answer tables k buffer =
-    if takes_lines buffer then seat_answer (slice_get tables.seats k) else Err (ShortBuffer short_buffer)
+    if takes_lines buffer
+    then seat_answer (slice_get tables.seats k)
+    else Err (ShortBuffer short_buffer)
 
 -- the buffer then
 abbrev pub cell_buffer : Tables → ℕ → List ℕ → List ℕ
-cell_buffer tables k buffer = if takes_lines buffer then seat_buffer buffer (slice_get tables.seats k) else buffer
+cell_buffer tables k buffer =
+    if takes_lines buffer then seat_buffer buffer (slice_get tables.seats k) else buffer
 
 -- the line of what all standing cells cost
 abbrev pub costs_text : Price → Tables → List ℕ

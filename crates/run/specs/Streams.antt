@@ -1,4 +1,5 @@
--- What reads and writes do to the bytes that a reader has left and a writer holds, where those are known.
+-- What reads and writes do to the bytes that a reader has left and a writer holds, where those are
+-- known.
 use Rattle.std.specs.Prelude.{◌≡◌, ℕ, ◌<◌, ◌≤◌, List, ◌++◌, length, Option}
 use Rattle.std.specs.Io.KnownBytes.{Appends, Consumes, IsAtEnd}
 

@@ -1,4 +1,5 @@
--- What a whole job says: a line for each record, the line of the fault that ends it, and the lines of what stands then.
+-- What a whole job says: a line for each record, the line of the fault that ends it, and the lines
+-- of what stands then.
 use Rattle.std.specs.Prelude.{ℕ, ◌+◌, List, [], ◌∷◌, ◌++◌, map, Some, None, Ok, Err, Option, Result}
 use Rattle.std.specs.List.{flat_map}
 use Rattle.floor.specs.Tables.{Tables, no_tables}

@@ -63,10 +63,12 @@ placing_text index name placing =
 
 -- what an event says of a record with this index and name
 abbrev pub event_said : ℕ → Option (List ℕ) → Event → Said
-event_said index name (Added added answer) = answer_said index name (λ _. granted_text index name) answer
+event_said index name (Added added answer) =
+    answer_said index name (λ _. granted_text index name) answer
 event_said index name (Placed cell answer) = answer_said index name (placing_text index name) answer
 event_said index name (Tried cell answer) = answer_said index name (placing_text index name) answer
-event_said index name (Withdrawn number answer) = answer_said index name (λ _. granted_text index name) answer
+event_said index name (Withdrawn number answer) =
+    answer_said index name (λ _. granted_text index name) answer
 
 -- what is said of a record that cannot be read
 abbrev pub unread_said : unread.Fault → Said
@@ -99,7 +101,13 @@ module _ (price : Price) where
   abbrev pub fault_turn : State → unread.Fault → Turn
   fault_turn s fault = record {
     said = unread_said fault;
-    after = record { index = s.index; records = []; fault = None; told = Some fault; tables = s.tables };
+    after = record {
+      index = s.index;
+      records = [];
+      fault = None;
+      told = Some fault;
+      tables = s.tables;
+    };
   }
 
   -- the step by what is left: of the first record, else of the fault, else none
@@ -111,7 +119,10 @@ module _ (price : Price) where
   abbrev pub turn : State → Option Turn
   turn s = turn_by s s.records s.fault
 
-  -- what comes of the calls of a step: one event where it is a record's
+  -- what comes of the calls of a step: one event where these records are left, and none where none is
   abbrev pub turn_events : State → List Content → List Event
   turn_events s [] = []
   turn_events s (c ∷ records) = event_in s c ∷ []
+
+  abbrev pub step_events : State → List Event
+  step_events s = turn_events s s.records

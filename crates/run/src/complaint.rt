@@ -6,7 +6,8 @@ use job::Fault;
 use std::error::Error;
 use std::fmt;
 
-/// Why a job cannot be read to its end, as it is said on standard error: one line that begins with `legalize: `.
+/// Why a job cannot be read to its end, as it is said on standard error: one line that begins with
+/// `legalize: `.
 #[derive(Clone, Copy, PartialEq, Eq, Debug)]
 pub enum Complaint {
     /// The job has no bytes.

@@ -59,7 +59,8 @@ impl Fault {
         }
     }
 
-    /// The line of a fault of a record with this index, and a name or none, which only a refusal shows.
+    /// The line of a fault of a record with this index, and a name or none, which only a refusal
+    /// shows.
     pub(crate) fn line<'a>(self, index: u16, name: Option<Name<'a>>) -> Line<'a>
         ensures { text result ≡ fault_text index (named name.entry) self }
     {

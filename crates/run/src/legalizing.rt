@@ -1,4 +1,5 @@
-// A job legalized: from the bytes of an input to the lines on standard output, a sentence on standard error, and a status.
+// A job legalized: from the bytes of an input to the lines on standard output, a sentence on
+// standard error, and a status.
 ghost use Rattle.std.specs.Prelude.{◌≡◌, IfErr, IfNone, IfOk, IfSome, OnOk, OnSome, Some};
 ghost use Rattle.std.specs.Io.KnownBytes.{Appends};
 ghost use Rattle.std.specs.Process.{exit_status};
@@ -19,7 +20,8 @@ use std::fmt;
 use std::io::{Read, Write};
 use std::process::ExitCode;
 
-/// How many bytes of an input are read: one more than a job may have, so that a longer one is refused.
+/// How many bytes of an input are read: one more than a job may have, so that a longer one is
+/// refused.
 pub const MOST_READ: usize = 65_536;
 
 /// Why a job is not answered in full.
@@ -96,15 +98,18 @@ fn conclude<E: Write>(
     Ok(ExitCode::FAILURE)
 }
 
-/// Answers a job: carries it out, writes its lines, and says why it cannot be read to its end, if it cannot.
+/// Answers a job: carries it out, writes its lines, and says why it cannot be read to its end, if
+/// it cannot.
 fn answer<W: Write, E: Write>(
     said: &mut Vec<u8>,
     out: &mut W,
     err: &mut E,
     job: &[u8],
 ) -> Result<ExitCode, Failure>
-    ensures lines { OnOk result (Appends (W.contents out.old) (W.contents out.new) (job_text job.now)) }
-    ensures said { OnOk result (Appends (E.contents err.old) (E.contents err.new) (complaint job.now)) }
+    ensures lines { OnOk result
+        (Appends (W.contents out.old) (W.contents out.new) (job_text job.now)) }
+    ensures said { OnOk result
+        (Appends (E.contents err.old) (E.contents err.new) (complaint job.now)) }
     ensures status { IfOk result (λ code. exit_status code ≡ status job.now) }
     ensures failed { IfErr result
         (LeavesOut (Some job.now) (W.contents out.old) (W.contents out.new)) }
@@ -144,10 +149,10 @@ fn fetch_and_answer<R: Read, W: Write, E: Write>(
     answer(said, out, err, &room[..length])
 }
 
-/// Legalizes the job that `input` holds: its lines go to `out`, and to `err` one sentence where it cannot be read
-/// to its end, or where a call failed. The lines are gathered in `said` before they are written, and what it held
-/// is cleared. At most 65,536 bytes are read, so that of an endless input no more is fetched than tells that it is
-/// too long.
+/// Legalizes the job that `input` holds: its lines go to `out`, and to `err` one sentence where it
+/// cannot be read to its end, or where a call failed. The lines are gathered in `said` before they
+/// are written, and what it held is cleared. At most 65,536 bytes are read, so that of an endless
+/// input no more is fetched than tells that it is too long.
 pub fn legalize<R: Read, W: Write, E: Write>(
     said: &mut Vec<u8>,
     input: &mut R,

@@ -1,4 +1,5 @@
-// A job carried out on a floor: record by record, with a line of text for what came of each.
+//! A job carried out on a floor, record by record, with a line of text for what came of each; and the
+//! work of the program `legalize`, from the bytes that it reads to those that it writes.
 #![tactic(auto)]
 
 mod complaint;

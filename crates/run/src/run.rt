@@ -1,17 +1,15 @@
 // A run: a job that is carried out on a floor, one record after another.
-ghost use Rattle.std.specs.Prelude.{◌≡◌, ◌≤◌, List, [], ◌++◌, IfOk, IfSome, OnOk};
+ghost use Rattle.std.specs.Prelude.{◌≡◌, ◌≤◌, [], IfOk, IfSome, OnOk};
 ghost use Rattle.std.specs.Option.{option_map};
-ghost use Rattle.floor.specs.State.{measure_of, tables_of};
+ghost use Rattle.floor.specs.State.{tables_of};
 ghost use Rattle.floor.specs.Tables.{no_tables};
 ghost use Rattle.history.specs.Lawful.{Lawful};
-ghost use Rattle.history.specs.declared.call.Event.{Event};
 ghost use Rattle.job.specs.Opened.{as_opened};
-ghost use Rattle.lines.specs.Texts.{named};
 ghost use Rattle.run.specs.Parts.{as_said, said_of};
 ghost use Rattle.run.specs.State.{floor_of, measure_in, price_in, state};
 ghost use Rattle.run.specs.Started.{started};
-ghost use Rattle.run.specs.Steps.{state_left, step_answer, step_buffer, step_state};
-ghost use Rattle.run.specs.Turns.{told, turn, turn_events};
+ghost use Rattle.run.specs.Steps.{ExtendsHistory, state_left, step_answer, step_buffer, step_state};
+ghost use Rattle.run.specs.Turns.{turn};
 
 use crate::fault::Fault;
 use floor::Floor;
@@ -24,7 +22,8 @@ mod record;
 
 pub use looks::NoLine;
 
-/// A job's reader, the floor on which its records are carried out, and the fault that ended the job, if one did.
+/// A job's reader, the floor on which its records are carried out, and the fault that ended the
+/// job, if one did.
 #[derive(Drop)]
 pub struct Run<'a, M: Measure> {
     reader: Reader<'a>,
@@ -32,8 +31,8 @@ pub struct Run<'a, M: Measure> {
     fault: Option<job::Fault>,
 }
 
-// The line of a record, and the run's fault if there was one.
-// `Step` has only the length of this line: one type for both would need a parameter for its first field.
+// The line of a record, and the run's fault if there was one. `Step` has only the length of this
+// line: one type for both would need a parameter for its first field.
 #[derive(Clone, Copy)]
 pub(crate) struct Said<'a> {
     pub(crate) line: Line<'a>,
@@ -59,7 +58,8 @@ impl<'a> Run<'a, MeasureName> {
 }
 
 impl<'a, M: Measure> Run<'a, M> {
-    /// A run that has read nothing of a job, on a floor with any measure: the job's is not looked at.
+    /// A run that has read nothing of a job, on a floor with any measure: the job's is not looked
+    /// at.
     pub fn on(job: &Job<'a>, floor: Floor<M>) -> Run<'a, M>
         ensures state { state result ≡ started (as_opened job.now).bytes (tables_of floor) }
         ensures same { floor_of result ≡ floor }
@@ -71,13 +71,6 @@ impl<'a, M: Measure> Run<'a, M> {
         }
     }
 
-    /// The floor as the records that were carried out have left it.
-    pub fn floor(&self) -> &Floor<M>
-        ensures { result.now ≡ floor_of self.now }
-    {
-        &self.floor
-    }
-
     /// The floor, as the run leaves it.
     pub fn into_floor(self) -> Floor<M>
         ensures { result ≡ floor_of self.entry }
@@ -85,20 +78,15 @@ impl<'a, M: Measure> Run<'a, M> {
         self.floor
     }
 
-    /// The fault that ended the job, or none where no record was met yet that cannot be read.
-    pub fn fault(&self) -> Option<job::Fault>
-        ensures { result ≡ (state self.now).told }
-    {
-        self.fault
-    }
-
-    // Reads the next record and carries it out; answers what is said of it, or none where nothing is left.
+    // Reads the next record and carries it out; answers what is said of it, or none where nothing
+    // is left.
     fn turn(&mut self) -> Option<Said<'a>>
-        ensures said { option_map as_said result ≡ option_map said_of (turn (price_in self.old) (state self.old)) }
-        ensures after { state self.new ≡ state_left (state self.old) (turn (price_in self.old) (state self.old)) }
+        ensures said { option_map as_said result
+            ≡ option_map said_of (turn (price_in self.old) (state self.old)) }
+        ensures after { state self.new
+            ≡ state_left (state self.old) (turn (price_in self.old) (state self.old)) }
         ensures same { measure_in self.new ≡ measure_in self.old }
-        ensures law { (history : List Event) → Lawful history (floor_of self.old)
-            → Lawful (turn_events (price_in self.old) (state self.old) (state self.old).records ++ history) (floor_of self.new) }
+        ensures law { ExtendsHistory self.old self.new }
     {
         if self.fault.is_some() {
             return None;
@@ -114,19 +102,22 @@ impl<'a, M: Measure> Run<'a, M> {
         }
     }
 
-    /// Carries out the next record and writes its line; answers the line's length and the run's fault if there was one,
-    /// or none where nothing is left: at the job's end, and after a record that cannot be read. A buffer of fewer than
-    /// 320 bytes is refused (20), and then nothing changes; the buffer past the line stays.
+    /// Carries out the next record and writes its line; answers the line's length and the run's
+    /// fault if there was one, or none where nothing is left: at the job's end, and after a record
+    /// that cannot be read. A buffer of fewer than 320 bytes is refused (20), and then nothing
+    /// changes; the buffer past the line stays.
     ///
-    /// Whatever history the floor has, it then has that history with what came of the record's call.
+    /// Whatever history the floor has, it then has that history with what came of the record's
+    /// call.
     pub fn step(&mut self, buffer: &mut [u8]) -> Result<Option<Step>, ShortBuffer>
         ensures answer { result ≡ step_answer (price_in self.old) (state self.old) buffer.old }
-        ensures after { state self.new ≡ step_state (price_in self.old) (state self.old) buffer.old }
-        ensures line { buffer.new ≡ step_buffer (price_in self.old) (state self.old) buffer.old }
+        ensures after { state self.new
+            ≡ step_state (price_in self.old) (state self.old) buffer.old }
+        ensures line { buffer.new
+            ≡ step_buffer (price_in self.old) (state self.old) buffer.old }
         ensures same { measure_in self.new ≡ measure_in self.old }
         ensures fits { IfOk result (λ step. IfSome step (λ s. s.length ≤ 320)) }
-        ensures law { OnOk result ((history : List Event) → Lawful history (floor_of self.old)
-            → Lawful (turn_events (price_in self.old) (state self.old) (state self.old).records ++ history) (floor_of self.new)) }
+        ensures law { OnOk result (ExtendsHistory self.old self.new) }
     {
         if buffer.len() < LEAST_BUFFER {
             return Err(ShortBuffer);

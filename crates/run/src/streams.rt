@@ -1,4 +1,5 @@
-// Single reads and writes, and their failures: nothing else makes a failure, so a call that answers one has met it.
+// Single reads and writes, and their failures: nothing else makes a failure, so a call that answers
+// one has met it.
 ghost use Rattle.std.specs.Prelude.{IfOk, OnOk, IfSome, ◌≡◌, ◌<◌, length};
 ghost use Rattle.std.specs.Io.{ReadsAtMost, WritesAtMost};
 ghost use Rattle.std.specs.Io.KnownBytes.{Appends, ReadConsumes, WriteAppends};
@@ -35,7 +36,8 @@ impl Display for WriteFailure {
 
 impl Error for WriteFailure {}
 
-/// One read, tried again where a signal interrupts it: how many bytes at the front of `room` were read.
+/// One read, tried again where a signal interrupts it: how many bytes at the front of `room` were
+/// read.
 pub(crate) fn read_some<R: Read>(input: &mut R, room: &mut [u8]) -> Result<usize, ReadFailure>
     ensures bound { ReadsAtMost result room.new }
     ensures bytes { ReadConsumes (R.remaining input.old) (R.remaining input.new) result room.new }
@@ -50,8 +52,8 @@ pub(crate) fn read_some<R: Read>(input: &mut R, room: &mut [u8]) -> Result<usize
     Err(ReadFailure(ErrorKind::Interrupted.into()))
 }
 
-/// One write, tried again where a signal interrupts it: how many bytes of the front of `bytes` were written.
-/// Of bytes that are not empty none taken is a failure.
+/// One write, tried again where a signal interrupts it: how many bytes of the front of `bytes` were
+/// written. Of bytes that are not empty none taken is a failure.
 pub(crate) fn write_some<W: Write>(out: &mut W, bytes: &[u8]) -> Result<usize, WriteFailure>
     ensures bound { WritesAtMost result bytes.now }
     ensures bytes { WriteAppends (W.contents out.old) (W.contents out.new) result bytes.now }

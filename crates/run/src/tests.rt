@@ -1,4 +1,5 @@
-// Whole jobs: what is printed, what is said on standard error, and the status; and what comes of streams that fail.
+// Whole jobs: what is printed, what is said on standard error, and the status; and what comes of
+// streams that fail.
 use crate::legalizing::legalize;
 use std::io;
 use std::io::{Read, Write};
@@ -46,13 +47,15 @@ fn jobs(rt: HostRuntime) -> Result<(), Fail> {
         ),
         // No records.
         (b"\x01", b"cost 0\n", b""),
-        // A row, a cell that is tried, and the same cell placed: the try leaves its number free and says what the placing says.
+        // A row, a cell that is tried, and the same cell placed: the try leaves its number free and
+        // says what the placing says.
         (
             b"\x00\x01\x04\x0A\x00\x04\x0B\x01\x00\x03\x00\x04\x00\x02\x0B\x01\x00\x03\x00\x04\x00",
             b"0 ok\n1 ok 0 3 0\n2 ok 0 3 0\n1 0 3\ncost 0\n",
             b"",
         ),
-        // A row, two cells that abut, and the second withdrawn: the first goes back to its wanted site.
+        // A row, two cells that abut, and the second withdrawn: the first goes back to its wanted
+        // site.
         (
             b"\x00\x01\x04\x0A\x00\x02\x0B\x01\x00\x03\x00\x04\x00\x02\x0B\x02\x00\x04\x00\x02\x00\x03\x01\x02\x00",
             b"0 ok\n1 ok 0 3 0\n2 ok 0 5 5\n3 ok\n1 0 3\ncost 0\n",
@@ -135,7 +138,8 @@ impl Write for Narrow {
 
 #[test]
 fn streams(rt: HostRuntime) -> Result<(), Fail> {
-    // Whether the input fails at its end, how many bytes of output are taken, and what is printed and said then.
+    // Whether the input fails at its end, how many bytes of output are taken, and what is printed
+    // and said then.
     let cases: [(bool, usize, &[u8], &[u8]); 3] = [
         (false, 1_000, LINES, b""),
         (

@@ -11,7 +11,8 @@ use std::io::{Read, Write};
 pub(crate) fn fetch<R: Read>(input: &mut R, room: &mut [u8]) -> Result<usize, ReadFailure>
     ensures bound { ReadsAtMost result room.new }
     ensures fetched { IfOk result (λ count.
-        Fetched (length room.old) (R.remaining input.old) (R.remaining input.new) (take count room.new)) }
+        Fetched (length room.old) (R.remaining input.old) (R.remaining input.new)
+        (take count room.new)) }
     ensures few { ReadsUpTo (length room.old) (R.remaining input.old) (R.remaining input.new) }
 {
     let mut filled = 0;

@@ -1,4 +1,5 @@
-// Carrying out a whole job: the lines of its records, of the cells that stand then, and of what they cost.
+// Carrying out a whole job: the lines of its records, of the cells that stand then, and of what
+// they cost.
 ghost use Rattle.std.specs.Prelude.{◌≡◌, List, ℕ, ◌++◌, Vec, reverse};
 ghost use Rattle.std.specs.declared.alloc.Global as heap;
 ghost use Rattle.history.specs.Lawful.{Lawful};
@@ -30,13 +31,15 @@ fn put(out: &mut Vec<u8>, added: Result<(), AllocError>, bytes: &[u8]) -> Result
     append(out, bytes)
 }
 
-// Carries out the records that are left, and adds a line for each. They are carried out also where a line could not be added.
+// Carries out the records that are left, and adds a line for each. They are carried out also where
+// a line could not be added.
 fn put_records(out: &mut Vec<u8>, run: &mut Run<'_, MeasureName>) -> Result<(), AllocError>
     ensures lines { Appends out.old result (rest_lines (price_in run.old) (state run.old)) out.new }
     ensures tables { (state run.new).tables ≡ rest_tables (price_in run.old) (state run.old) }
     ensures fault { (state run.new).told ≡ rest_fault (state run.old) }
     ensures law { (history : List Event) → Lawful history (floor_of run.old)
-        → Lawful (reverse (rest_events (price_in run.old) (state run.old)) ++ history) (floor_of run.new) }
+        → Lawful (reverse (rest_events (price_in run.old) (state run.old)) ++ history)
+        (floor_of run.new) }
     ensures same { measure_in run.new ≡ measure_in run.old }
 {
     let mut buffer = [0; LEAST_BUFFER];
@@ -47,7 +50,8 @@ fn put_records(out: &mut Vec<u8>, run: &mut Run<'_, MeasureName>) -> Result<(), 
     added
 }
 
-// Adds a line for each cell that stands. They are asked for by their place in the order, and a floor has at most 1,024.
+// Adds a line for each cell that stands. They are asked for by their place in the order, and a
+// floor has at most 1,024.
 fn put_cells(
     out: &mut Vec<u8>,
     mut added: Result<(), AllocError>,
@@ -73,7 +77,8 @@ fn put_cost(
     run: &Run<'_, MeasureName>,
 ) -> Result<(), AllocError>
     ensures { (from : Vec ℕ heap.Global) (said : List ℕ) → Appends from added said out.old
-        → Appends from result (said ++ costs_text (price_in run.now) (state run.now).tables) out.new }
+        → Appends from result
+        (said ++ costs_text (price_in run.now) (state run.now).tables) out.new }
 {
     let mut buffer = [0; LEAST_BUFFER];
     let length = run.cost_line(&mut buffer).unwrap();
@@ -91,9 +96,10 @@ pub struct CarriedOut {
     pub added: Result<(), AllocError>,
 }
 
-/// Carries out a whole job, and adds a line for each record, a line for each cell that stands then, and one for what they
-/// cost; of a job that cannot be opened only the line that says so. All records are carried out, also where a line could
-/// not be added for want of memory. The floor that is left obeys the law.
+/// Carries out a whole job, and adds a line for each record, a line for each cell that stands then,
+/// and one for what they cost; of a job that cannot be opened only the line that says so. All
+/// records are carried out, also where a line could not be added for want of memory. The floor that
+/// is left obeys the law.
 pub fn carry_out(out: &mut Vec<u8>, bytes: &[u8]) -> CarriedOut
     ensures lines { Appends out.old result.added (job_text bytes.now) out.new }
     ensures fault { result.fault ≡ fault_of bytes.now }

@@ -38,7 +38,8 @@ fn record_call<'a>(found: Record<'a>) -> Call
     }
 }
 
-// The line of an event of a record with this index, and a name or none, or why its call was refused.
+// The line of an event of a record with this index, and a name or none, or why its call was
+// refused.
 fn event_line<'a>(event: Event, index: u16, name: Option<Name<'a>>) -> Result<Line<'a>, Fault>
     ensures { told index (named name.entry) result ≡ event_said index (named name.entry) event }
 {
@@ -91,13 +92,14 @@ impl<'a, M: Measure> Run<'a, M> {
     pub(crate) fn carry_out_record(&mut self, index: u16, found: Record<'a>) -> Said<'a>
         ensures said { as_said result ≡ event_said index (name_in (content found.entry))
             (event_of (price_in self.old) (state self.old).tables (call_in (content found.entry))) }
-        ensures tables { (state self.new).tables
-            ≡ tables_then (price_in self.old) (state self.old).tables (call_in (content found.entry)) }
+        ensures tables { (state self.new).tables ≡ tables_then (price_in self.old)
+            (state self.old).tables (call_in (content found.entry)) }
         ensures same { measure_in self.new ≡ measure_in self.old }
         ensures reader { self.new.reader ≡ self.old.reader }
         ensures fault { self.new.fault ≡ self.old.fault }
         ensures law { (history : List Event) → Lawful history (floor_of self.old)
-            → Lawful (event_of (price_in self.old) (state self.old).tables (call_in (content found.entry)) ∷ history) (floor_of self.new) }
+            → Lawful (event_of (price_in self.old) (state self.old).tables
+            (call_in (content found.entry)) ∷ history) (floor_of self.new) }
     {
         let event = record_call(found).make(&mut self.floor);
         Said::of_event(event, index, record_name(found))
