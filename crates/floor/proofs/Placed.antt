@@ -1,5 +1,5 @@
 -- What is known once a row is chosen for a cell.
-use Rattle.std.proofs.Common.{◌≡◌, ℕ, ◌≤◌, Bool, true, false, cond, ◌||◌, eqb, leb, List, [], ◌∷◌, Some, None, Ok, Option, IsSome, IfSome, length, sym, refl, ap, ◌∙◌, subst, arith}
+use Rattle.std.proofs.Common.{◌≡◌, ℕ, ◌≤◌, Bool, true, false, cond, ◌||◌, eqb, leb, List, [], ◌∷◌, Some, None, Ok, Err, Option, IsSome, IfSome, length, sym, refl, ap, ◌∙◌, subst, arith}
 use Rattle.std.proofs.lemmas.Bool.{or_left, or_right, cond_both, cond-false, eq-eqb, both_ways}
 use Rattle.std.proofs.ByRecursion.{All-weaker}
 use Rattle.std.proofs.lemmas.Option.{same_Some}
@@ -12,14 +12,13 @@ use Rattle.row.proofs.Accepted.{both}
 use Rattle.row.specs.declared.Cell.{Cell}
 use Rattle.row.specs.declared.Row.{Row}
 use Rattle.table.proofs.Inserted.{put_in, put_all, inserted_is}
-use Rattle.floor.specs.Calls.{placing_on, outcome_unless, better, chosen, rise, seated, seat_of, outcome_on, place}
+use Rattle.floor.specs.Calls.{refusal_outcome, placing_on, outcome_unless, better, chosen, rise, seated, seat_of, outcome_on, place}
 use Rattle.floor.specs.Choices.{best_choice, choice_of, sites_with}
 use Rattle.floor.specs.Formed.{formed}
 use Rattle.floor.specs.Refusals.{has_sites, stands, cell_refusal, place_refusal}
 use Rattle.floor.specs.Seats.{seat_ahead, cells_on, new_seat, joined, resited}
 use Rattle.floor.specs.Tables.{Tables, Outcome}
 use Rattle.floor.specs.declared.Placing.{Placing}
-use Rattle.floor.specs.declared.Refusal.{Refusal}
 use Rattle.floor.specs.declared.Refusal.TheVariants.{NoRoom}
 use Rattle.floor.specs.declared.Seat.{Seat}
 use Rattle.floor.specs.declared.choice.Choice.{Choice}
@@ -127,18 +126,14 @@ pub record Chose (f : Price) (t : Tables) (cell : Cell) (choice : Choice) (kept 
   pub places : AllByRecursion (λ x. x ≤ 65535) kept
   pub well : formed t.rows (seated f t.seats cell choice.row) ≡ true
 
-choice_is : (f : Price) (seats : List Seat) (cell : Cell) (choice : Choice) (row : Row) → Ok choice ≡ ok_or {E = Refusal} (Some (choice_of f seats cell row)) NoRoom → choice ≡ choice_of f seats cell row
+choice_is : (f : Price) (seats : List Seat) (cell : Cell) (choice : Choice) (row : Row) → Some choice ≡ Some (choice_of f seats cell row) → choice ≡ choice_of f seats cell row
 choice_is f seats cell choice row e = cc
 
-taken_is : (choice : Choice) (o : Option Choice) → Ok choice ≡ ok_or {E = Refusal} o NoRoom → o ≡ Some choice
-taken_is choice None e = let never : ◌≡◌ {A = ℕ} 0 1 = cc in absurd (omega arith)
-taken_is choice (Some other) e = let same : choice ≡ other = cc in ap Some (sym same)
-
-pub chose : {f : Price} (fair : Fair f) (t : Tables) (cell : Cell) {choice : Choice} {given : Option Choice} {sites : List ℕ} → formed t.rows t.seats ≡ true → None ≡ cell_refusal t.seats cell → Ok choice ≡ ok_or given NoRoom → given ≡ best_choice f t cell
+pub chose : {f : Price} (fair : Fair f) (t : Tables) (cell : Cell) {choice : Choice} {given : Option Choice} {sites : List ℕ} → formed t.rows t.seats ≡ true → None ≡ cell_refusal t.seats cell → given ≡ Some choice → given ≡ best_choice f t cell
     → IfSome given (λ c. sites ≡ sites_with f t.seats cell c.row) → Chose f t cell choice sites
-chose {f} fair t cell {choice} {given} {sites} well free taken told kept = by_row (chosen f t.seats cell t.rows) refl (taken ∙ ap (λ o. ok_or o NoRoom) told)
+chose {f} fair t cell {choice} {given} {sites} well free taken told kept = by_row (chosen f t.seats cell t.rows) refl (sym taken ∙ told)
   where
-    by_row : (o : Option Row) → chosen f t.seats cell t.rows ≡ o → Ok choice ≡ ok_or (option_map (choice_of f t.seats cell) o) NoRoom → Chose f t cell choice sites
+    by_row : (o : Option Row) → chosen f t.seats cell t.rows ≡ o → Some choice ≡ option_map (choice_of f t.seats cell) o → Chose f t cell choice sites
     by_row None is e = let never : ◌≡◌ {A = ℕ} 0 1 = cc in absurd (omega arith)
     by_row (Some row) is e =
         let same = choice_is f t.seats cell choice row e in
@@ -149,7 +144,7 @@ chose {f} fair t cell {choice} {given} {sites} well free taken told kept = by_ro
         let can = placeable t.seats cell none in
         let cs : List Cell = cells_on choice.row (joined choice.row cell t.seats) in
         let ready = ready_standing t.rows t.seats well cell can choice.row good.stands good.fits in
-        let found : sites ≡ sites_with f t.seats cell choice.row = subst (λ o. IfSome o (λ c. sites ≡ sites_with f t.seats cell c.row)) (taken_is choice given taken) kept in
+        let found : sites ≡ sites_with f t.seats cell choice.row = subst (λ o. IfSome o (λ c. sites ≡ sites_with f t.seats cell c.row)) taken kept in
         record {
           is = chosen_is;
           placing = ap (λ c. c.placing) same ∙ ap (placing_on f t.seats cell) (sym row_is);
@@ -167,3 +162,29 @@ pub placing_is : {f : Price} (t : Tables) (cell : Cell) (choice : Choice) {sites
 placing_is {f} t cell choice {sites} known =
     (λ i. record { answer = Ok (known.placing i); tables = record { rows = t.rows; seats = resited choice.row (known.sites i) (joined choice.row cell t.seats) } })
     ∙ sym (ap (λ o. outcome_unless o t (outcome_on f t cell (chosen f t.seats cell t.rows))) known.free ∙ ap (outcome_on f t cell) known.is)
+
+-- where no row is chosen, placing is refused ..
+pub not_placed : (f : Price) (t : Tables) (cell : Cell) → cell_refusal t.seats cell ≡ None → best_choice f t cell ≡ None → place f t cell ≡ refusal_outcome NoRoom t
+not_placed f t cell free none =
+    ap (λ o. outcome_unless o t (outcome_on f t cell (chosen f t.seats cell t.rows))) free ∙ by_row (chosen f t.seats cell t.rows) none
+  where
+    by_row : (o : Option Row) → option_map (choice_of f t.seats cell) o ≡ None → outcome_on f t cell o ≡ refusal_outcome NoRoom t
+    by_row None e = refl
+    by_row (Some row) e = let never : ◌≡◌ {A = ℕ} 0 1 = cc in absurd (omega arith)
+
+-- .. for want of room
+pub full_answer : (f : Price) (t : Tables) (cell : Cell) → cell_refusal t.seats cell ≡ None → best_choice f t cell ≡ None → (place f t cell).answer ≡ Err NoRoom
+full_answer f t cell free none = ap (λ o. o.answer) (not_placed f t cell free none)
+
+-- .. and the tables stay
+pub full_tables : (f : Price) (t : Tables) (cell : Cell) → cell_refusal t.seats cell ≡ None → best_choice f t cell ≡ None → (place f t cell).tables ≡ t
+full_tables f t cell free none = ap (λ o. o.tables) (not_placed f t cell free none)
+
+-- a try answers the placing of the row that is chosen, or that no row has sites
+pub tried : (f : Price) (t : Tables) (cell : Cell) → cell_refusal t.seats cell ≡ None → ok_or (option_map (λ (c : Choice). c.placing) (best_choice f t cell)) NoRoom ≡ (place f t cell).answer
+tried f t cell free =
+    by_row (chosen f t.seats cell t.rows) ∙ ap (λ o. (outcome_unless o t (outcome_on f t cell (chosen f t.seats cell t.rows))).answer) (sym free)
+  where
+    by_row : (o : Option Row) → ok_or (option_map (λ (c : Choice). c.placing) (option_map (choice_of f t.seats cell) o)) NoRoom ≡ (outcome_on f t cell o).answer
+    by_row None = refl
+    by_row (Some row) = refl

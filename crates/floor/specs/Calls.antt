@@ -1,5 +1,5 @@
--- The calls of a floor: for each a function from the price, the tables and the arguments to the outcome.
-use Rattle.std.specs.Prelude.{ℕ, ◌+◌, ◌-◌, not, cond, List, [], ◌∷◌, filter, Some, None, Ok, Err, Option, Result, nat_eq, nat_le}
+-- The calls of a floor: each is one function from price, tables and arguments to its outcome.
+use Rattle.std.specs.Prelude.{ℕ, ◌+◌, ◌-◌, not, if◌then◌else◌, List, [], ◌∷◌, filter, Some, None, Ok, Err, Option, Result, nat_eq, nat_le}
 use Rattle.std.specs.List.{find, insert}
 use Rattle.std.specs.Option.{option_map, unwrap_or, ok_or}
 use Rattle.measure.specs.Costs.{Price}
@@ -34,7 +34,10 @@ with_row rows row = insert rows (rank_of row_ahead rows row) row
 abbrev pub add_row : Tables → Row → Outcome (Unit {0})
 add_row tables row =
     outcome_unless (add_refusal tables.rows row) tables
-    (record { answer = Ok tt; tables = record { rows = with_row tables.rows row; seats = tables.seats } })
+    (record {
+      answer = Ok tt;
+      tables = record { rows = with_row tables.rows row; seats = tables.seats };
+    })
 
 -- a standing cell's seat, by its number
 abbrev pub seat_of : ℕ → List Seat → Option Seat
@@ -59,18 +62,17 @@ rise price seats cell row =
     (row_cost price row (seated price seats cell row) - row_cost price row seats)
     + line_cost price cell row.line
 
--- the better of a row and what is chosen of the rows after it: the row, unless a later one rises less
+-- the better of a row and what is chosen of the rows after it: the row, unless that rises less
 abbrev pub better : (Row → ℕ) → Row → Option Row → Option Row
 better rises row None = Some row
-better rises row (Some other) = cond (nat_le (rises row) (rises other)) (Some row) (Some other)
+better rises row (Some other) = if nat_le (rises row) (rises other) then Some row else Some other
 
 -- the row of least rise among those that have sites; of equal ones the first
 abbrev pub chosen : Price → List Seat → Cell → List Row → Option Row
 chosen price seats cell [] = None
 chosen price seats cell (row ∷ rows) =
-    cond (has_sites seats cell row)
-    (better (rise price seats cell) row (chosen price seats cell rows))
-    (chosen price seats cell rows)
+    let later = chosen price seats cell rows in
+    if has_sites seats cell row then better (rise price seats cell) row later else later
 
 -- the site of a number's seat
 abbrev pub site_then : ℕ → List Seat → ℕ

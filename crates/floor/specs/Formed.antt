@@ -1,6 +1,4 @@
 -- What every floor keeps, whatever its measure: plain facts of its rows and seats, as tests.
---   formed           rows within their ranges, in row order and apart; seats of cells within their ranges, in their order, no number twice,
---                    each on a standing row, legal and in wanted order
 use Rattle.std.specs.Prelude.{◌+◌, Bool, true, not, ◌&&◌, ◌||◌, List, [], ◌∷◌, is_some, ◌==◌, nat_le}
 use Rattle.std.specs.List.{list_all, list_any}
 use Rattle.row.specs.Records.{cell_fault, row_fault, row_ahead}
@@ -38,6 +36,10 @@ seats_apart s t =
     && (not (s.cell.number == t.cell.number)
     && (not (on_row t.row s) || nat_le (s.site + s.cell.width) t.site))
 
--- what every floor keeps
+-- what every floor keeps: rows within their ranges, in row order and apart; and seats of cells
+-- within their ranges, in their order, no number twice, each on a standing row, legal and in wanted
+-- order
 abbrev pub formed : List Row → List Seat → Bool
-formed rows seats = rows_formed rows && (list_all (seat_formed rows) seats && every_pair seats_apart seats)
+formed rows seats =
+    rows_formed rows
+    && (list_all (seat_formed rows) seats && every_pair seats_apart seats)

@@ -11,4 +11,6 @@ use Rattle.floor.specs.declared.Seat.{Seat}
 pub Ordered-prop : (seats : List Seat) → IsProp (Ordered seat_ahead seats)
 Ordered-prop [] = Unit-prop
 Ordered-prop (s ∷ seats) =
-    ×_prop (AllByRecursion-prop (λ t. seat_ahead s t ≡ true) (λ t. Bool-set (seat_ahead s t) true) seats) (Ordered-prop seats)
+    ×_prop
+    (AllByRecursion-prop (λ t. seat_ahead s t ≡ true) (λ t. Bool-set (seat_ahead s t) true) seats)
+    (Ordered-prop seats)

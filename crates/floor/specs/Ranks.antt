@@ -23,17 +23,21 @@ cell_ties : (c d : Cell) → before c d ≡ false → before d c ≡ false
 cell_ties c d p q = (grind arith, grind arith)
 
 -- rows of one line and one left are one row to their seats
-on_tied : (s t : Seat) → (s.row.line ≡ t.row.line) × (s.row.left ≡ t.row.left) → on_row t.row s ≡ true
+on_tied : (s t : Seat) → (s.row.line ≡ t.row.line) × (s.row.left ≡ t.row.left)
+    → on_row t.row s ≡ true
 on_tied s t rows = grind arith
 
 -- of seats on one row, wanted order tells
-ahead_on : (s t : Seat) → on_row t.row s ≡ true → seat_ahead s t ≡ false → before s.cell t.cell ≡ false
+ahead_on : (s t : Seat) → on_row t.row s ≡ true → seat_ahead s t ≡ false
+    → before s.cell t.cell ≡ false
 ahead_on s t on fails = grind arith
 
 -- two seats of which neither is ahead have one rank
-pub seat_total : (s t : Seat) → seat_ahead s t ≡ false → seat_ahead t s ≡ false → seat_rank s ≡ seat_rank t
+pub seat_total : (s t : Seat) → seat_ahead s t ≡ false → seat_ahead t s ≡ false
+    → seat_rank s ≡ seat_rank t
 seat_total s t p q =
-    let rows = row_ties s.row t.row (or_parts (row_ahead s.row t.row) _ p).0 (or_parts (row_ahead t.row s.row) _ q).0 in
+    let rows = row_ties s.row t.row (or_parts (row_ahead s.row t.row) _ p).0
+    (or_parts (row_ahead t.row s.row) _ q).0 in
     let on : on_row t.row s ≡ true = on_tied s t rows in
     let on_back : on_row s.row t ≡ true = grind arith in
     let cells = cell_ties s.cell t.cell (ahead_on s t on p) (ahead_on t s on_back q) in

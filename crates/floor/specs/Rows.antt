@@ -1,6 +1,4 @@
--- The rows of a floor.
---   same_row         rows with one line and one left
---   share            two rows of one line that have a site in common
+-- The rows of a floor: which are the same, and which have a site in common.
 use Rattle.std.specs.Prelude.{Bool, ◌&&◌, ◌==◌, nat_lt}
 use Rattle.row.specs.declared.Row.{Row}
 

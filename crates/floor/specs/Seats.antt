@@ -1,20 +1,8 @@
 -- The seats of a floor: its standing cells, each with its row and its site.
---   cells_by         the cells on a row, of what holds a cell and its row
---   cell_cost        what a cell costs on a row at a site; costs_by: what all cells cost, of what holds a cell, its row and its site
---   on_row           whether a seat is on a row
---   seat_ahead       the order of seats: by row order, then by wanted order
---   seats_on         the seats of a row, in their order; cells_on, sites_on: their cells and their sites
---   Sited            that a seat's cell and site are within their ranges
---   new_seat         a seat before its row is set; row_key: a seat that none of a row's is ahead of
---   resited          the seats with the sites of a row's own rewritten; moved_all: seats at other sites, one after another
---   seat_cost        what the site of a seat costs; row_cost: the cost of the sites of a row
---   joined           the seats with one more, for a cell on a row, in its place
---   CanTake          that a row can be set with a cell more
---   settled          the seats once a row is set: only the sites of its own seats are rewritten
---   floor_cost       the cost of all seats: of their sites and of their lines
-use Rattle.std.specs.Prelude.{ℕ, ◌+◌, ◌≤◌, Bool, cond, ◌&&◌, ◌||◌, List, [], ◌∷◌, Option, map, filter, nat_eq, nat_lt}
+use Rattle.std.specs.Prelude.{ℕ, ◌+◌, ◌≤◌, Bool, if◌then◌else◌, ◌&&◌, ◌||◌, List, [], ◌∷◌, Option, map, filter, nat_eq, nat_lt}
 use Rattle.std.specs.List.{insert, position_from}
 use Rattle.measure.specs.Costs.{Price}
+use Rattle.measure.specs.declared.TheConstants.{LAST_PLACE}
 use Rattle.row.specs.Records.{before, row_ahead}
 use Rattle.row.specs.Costs.{line_cost, site_cost, sites_cost}
 use Rattle.row.specs.Sites.{row_sites}
@@ -29,14 +17,16 @@ use Rattle.floor.specs.declared.Seat.{Seat}
 abbrev pub cells_by : {X : Type 0} → (X → Cell) → (X → Row) → Row → List X → List Cell
 cells_by cell_of row_of row xs = map cell_of (filter (λ x. same_row (row_of x) row) xs)
 
--- what a cell costs on a row at a site: the site against the wanted site, and the line against the wanted line
+-- what a cell costs on a row at a site: the site against the wanted site, and the line against the
+-- wanted line
 abbrev pub cell_cost : Price → Cell → Row → ℕ → ℕ
 cell_cost price c row site = site_cost price c site + line_cost price c row.line
 
 -- what all cells cost, of what holds a cell, its row and its site
 abbrev pub costs_by : {X : Type 0} → (X → Cell) → (X → Row) → (X → ℕ) → Price → List X → ℕ
 costs_by cell_of row_of site_of price [] = 0
-costs_by cell_of row_of site_of price (x ∷ xs) = cell_cost price (cell_of x) (row_of x) (site_of x) + costs_by cell_of row_of site_of price xs
+costs_by cell_of row_of site_of price (x ∷ xs) =
+    cell_cost price (cell_of x) (row_of x) (site_of x) + costs_by cell_of row_of site_of price xs
 
 -- whether a seat is on a row
 abbrev pub on_row : Row → Seat → Bool
@@ -66,6 +56,7 @@ cell_of s = s.cell
 abbrev pub row_of : Seat → Row
 row_of s = s.row
 
+-- the cells on a row
 abbrev pub cells_on : Row → List Seat → List Cell
 cells_on row seats = map cell_of (seats_on row seats)
 
@@ -73,20 +64,25 @@ cells_on row seats = map cell_of (seats_on row seats)
 abbrev pub site_of : Seat → ℕ
 site_of s = s.site
 
+-- the sites of a row's seats
 abbrev pub sites_on : Row → List Seat → List ℕ
 sites_on row seats = map site_of (seats_on row seats)
 
 -- a seat of a cell within its ranges, at a place
 abbrev pub Sited : Seat → Type 0
-Sited s = Passes s.cell × (s.site ≤ 65535)
+Sited s = Passes s.cell × (s.site ≤ LAST_PLACE)
 
 -- what the site of a seat costs
 abbrev pub seat_cost : Price → Seat → ℕ
 seat_cost price s = site_cost price s.cell s.site
 
--- a seat on a row that no seat of the row is ahead of
+-- a seat on a row that no seat of the row is ahead of, for a search
 abbrev pub row_key : Row → Seat
-row_key row = record { cell = record { number = 0; wanted = record { line = 0; site = 0 }; width = 0; weight = 0 }; row = row; site = 0 }
+row_key row = record {
+  cell = record { number = 0; wanted = record { line = 0; site = 0 }; width = 0; weight = 0 };
+  row = row;
+  site = 0;
+}
 
 -- the cost of the sites of a row
 abbrev pub row_cost : Price → Row → List Seat → ℕ
@@ -98,7 +94,9 @@ new_seat row cell = record { cell = cell; row = row; site = 0 }
 
 -- the seats with one more, in its place
 abbrev pub joined : Row → Cell → List Seat → List Seat
-joined row cell seats = insert seats (rank_of seat_ahead seats (new_seat row cell)) (new_seat row cell)
+joined row cell seats =
+    let seat = new_seat row cell in
+    insert seats (rank_of seat_ahead seats seat) seat
 
 -- that `set` refuses neither the row nor its cells with one more
 abbrev pub CanTake : Row → Cell → List Seat → Type 0
@@ -112,7 +110,8 @@ moved s x = record { cell = s.cell; row = s.row; site = x }
 abbrev pub resited : Row → List ℕ → List Seat → List Seat
 resited row sites [] = []
 resited row [] (s ∷ seats) = s ∷ seats
-resited row (x ∷ xs) (s ∷ seats) = cond (on_row row s) (moved s x ∷ resited row xs seats) (s ∷ resited row (x ∷ xs) seats)
+resited row (x ∷ xs) (s ∷ seats) =
+    if on_row row s then moved s x ∷ resited row xs seats else s ∷ resited row (x ∷ xs) seats
 
 -- seats at other sites, one after another from the first on
 abbrev pub moved_all : List ℕ → List Seat → List Seat
@@ -124,6 +123,7 @@ moved_all (x ∷ xs) (s ∷ seats) = moved s x ∷ moved_all xs seats
 abbrev pub settled : Price → Row → List Seat → List Seat
 settled price row seats = resited row (row_sites price row (cells_on row seats)) seats
 
--- the cost of all seats: of the site against the wanted site, and of the line against the wanted line
+-- the cost of all seats: of the site against the wanted site, and of the line against the wanted
+-- line
 abbrev pub floor_cost : Price → List Seat → ℕ
 floor_cost price = costs_by cell_of row_of site_of price

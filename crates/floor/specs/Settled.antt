@@ -15,7 +15,8 @@ use Rattle.floor.specs.declared.Seat.{Seat}
 
 -- every row's sites are those that `set` gives its cells
 abbrev pub Settled : Price → List Row → List Seat → Type 0
-Settled price rows seats = AllByRecursion (λ row. sites_on row seats ≡ row_sites price row (cells_on row seats)) rows
+Settled price rows seats =
+    AllByRecursion (λ row. sites_on row seats ≡ row_sites price row (cells_on row seats)) rows
 
 -- where a placing went, and that no other row would have been better
 pub record Least (price : Price) (t : Tables) (cell : Cell) (placing : Placing) : Type 0 where

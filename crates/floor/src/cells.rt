@@ -1,4 +1,4 @@
-//! Room on the stack for the cells of one row and for their sites, and how cells are gathered there.
+//! Room on the stack for the cells of one row and for their sites, and how cells are gathered.
 ghost use Rattle.std.specs.Prelude.{◌≡◌, ◌+◌, ◌≤◌, ◌++◌, length, map};
 ghost use Rattle.arrayvec.specs.ArrayVec.{array_vec_len};
 ghost use Rattle.floor.specs.Seats.{cell_of};

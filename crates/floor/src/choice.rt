@@ -37,9 +37,10 @@ impl<M: Measure> Offer<'_, M> {
     /// The row of least rise among those that have sites for the cell; of equal ones the first in
     /// row order. Keeps the sites of that row's cells with the new one.
     pub(crate) fn choose(&self, kept: &mut RowSites) -> Option<Choice>
-        ensures choice { result ≡ best_choice (price_in self.now) (tables_in self.now) self.now.cell }
-        ensures sites { IfSome result (λ c.
-            kept.new.items ≡ sites_with (price_in self.now) (seats_in self.now) self.now.cell c.row) }
+        ensures choice { result
+            ≡ best_choice (price_in self.now) (tables_in self.now) self.now.cell }
+        ensures sites { IfSome result (λ c. kept.new.items
+            ≡ sites_with (price_in self.now) (seats_in self.now) self.now.cell c.row) }
     {
         let mut best = None;
         let mut spare = [0; MOST_CELLS];

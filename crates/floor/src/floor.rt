@@ -5,6 +5,7 @@ ghost use Rattle.std.proofs.Props.{props};
 ghost use Rattle.floor.specs.Formed.{formed};
 ghost use Rattle.floor.specs.Rows.{share};
 ghost use Rattle.floor.specs.Settled.{Settled};
+ghost use Rattle.floor.specs.declared.floor.TheConstants.{MOST_ROWS};
 
 use crate::cells::RowSites;
 use crate::choice::{Choice, Offer};
@@ -27,7 +28,7 @@ pub struct Floor<M: Measure> {
     measure: M,
     rows: ArrayVec<Row, MOST_ROWS>,
     seats: Seats,
-    ghost few: { length rows.items ≤ 64 },
+    ghost few: { length rows.items ≤ MOST_ROWS },
     ghost well: { formed rows.items seats.items.items ≡ true },
     ghost set: { Settled (M.price measure) rows.items seats.items.items } by { Prim.hlevel props },
 }
@@ -138,6 +139,7 @@ impl<M: Measure> Floor<M> {
     /// Refuses a cell with a field outside its range (1 to 4), one whose number stands (5), one
     /// that comes when 1,024 cells stand (6), and one for which no row has sites (7). What is
     /// refused changes nothing.
+    #[tactic(auto, using(crate::proofs::Placed::full_answer, crate::proofs::Placed::full_tables))]
     pub fn place(&mut self, cell: Cell) -> Result<Placing, Refusal>
         ensures answer { result ≡ (place (price_of self.old) (tables_of self.old) cell).answer }
         ensures tables { tables_of self.new
@@ -149,26 +151,31 @@ impl<M: Measure> Floor<M> {
     {
         self.check_cell(&cell)?;
         let mut sites = RowSites::new();
-        let choice = self.choose(cell, &mut sites).ok_or(Refusal::NoRoom)?;
+        let Some(choice) = self.choose(cell, &mut sites) else {
+            return Err(Refusal::NoRoom);
+        };
         self.seats.seat(choice.row, cell, sites.as_slice());
         Ok(choice.placing)
     }
 
     /// What `place` would answer for a cell. Nothing changes.
+    #[tactic(auto, using(crate::proofs::Placed::tried))]
     pub fn try_place(&self, cell: Cell) -> Result<Placing, Refusal>
         ensures { result ≡ (try_place (price_of self.now) (tables_of self.now) cell).answer }
     {
         self.check_cell(&cell)?;
-        let mut sites = RowSites::new();
-        let choice = self.choose(cell, &mut sites).ok_or(Refusal::NoRoom)?;
-        Ok(choice.placing)
+        self.choose(cell, &mut RowSites::new())
+            .map(|choice| choice.placing)
+            .ok_or(Refusal::NoRoom)
     }
 
     /// Takes the cell of a number out, and sets its row again. Answers where the cell stood.
     ///
     /// Refuses a number that does not stand (8); then nothing changes.
+    #[tactic(auto, using(crate::proofs::Leaving::not_found))]
     pub fn withdraw(&mut self, number: u32) -> Result<Spot, Refusal>
-        ensures answer { result ≡ (withdraw (price_of self.old) (tables_of self.old) number).answer }
+        ensures answer { result
+            ≡ (withdraw (price_of self.old) (tables_of self.old) number).answer }
         ensures tables { tables_of self.new
             ≡ (withdraw (price_of self.old) (tables_of self.old) number).tables }
         ensures same { measure_of self.new ≡ measure_of self.old }

@@ -3,6 +3,7 @@ ghost use Rattle.std.specs.Prelude.{◌≡◌, ◌<◌, ◌≤◌, true, length}
 ghost use Rattle.floor.specs.Refusals.{has_sites};
 ghost use Rattle.floor.specs.Seats.{CanTake, seats_on};
 ghost use Rattle.std.proofs.Props.{props};
+ghost use Rattle.row.specs.declared.TheConstants.{MOST_CELLS};
 
 use crate::cells::{RowCells, RowSites, push_cells};
 use crate::choice::{Choice, Offer};
@@ -18,7 +19,7 @@ pub(crate) struct OfferedRow<'a, M: Measure> {
     pub(crate) offer: &'a Offer<'a, M>,
     pub(crate) row: Row,
     pub(crate) seats: &'a [Seat],
-    ghost few: { length seats.now < 1024 },
+    ghost few: { length seats.now < MOST_CELLS },
     ghost some: { row.left ≤ row.right },
     ghost own: { seats.now ≡ seats_on row offer.now.seats.now.items.items },
     ghost ready: { has_sites offer.now.seats.now.items.items offer.now.cell row ≡ true
@@ -35,7 +36,8 @@ pub(crate) struct Trial {
 impl<M: Measure> OfferedRow<'_, M> {
     ghost use Rattle.std.specs.Prelude.{◌^◌, ◌+◌, IfSome};
     ghost use Rattle.row.specs.Records.{widths};
-    ghost use Rattle.floor.specs.Choices.{better_choice, choice_of, choice_on, sites_with, trial_on};
+    ghost use Rattle.floor.specs.Choices.{better_choice, choice_of, choice_on};
+    ghost use Rattle.floor.specs.Choices.{sites_with, trial_on};
     ghost use Rattle.floor.specs.Offers.{price_in, seats_in};
     ghost use Rattle.floor.specs.Seats.{cells_on, row_cost};
 
@@ -69,8 +71,8 @@ impl<M: Measure> OfferedRow<'_, M> {
             <= u64::from(self.row.right - self.row.left)
     }
 
-    // The trial of the cell on the row, in room for `N` cells. Fills in the sites of the row's cells
-    // with the new one.
+    // The trial of the cell on the row, in room for `N` cells. Fills in the sites of the row's
+    // cells with the new one.
     // It is a call of its own for each `N`, so that a row of few cells does not pay for the room of
     // one that has many.
     #[inline(never)]
@@ -79,7 +81,7 @@ impl<M: Measure> OfferedRow<'_, M> {
             self.now.row ≡ true }
         requires each { length sites.old ≡ length self.now.seats.now + 1 }
         requires few { length self.now.seats.now < N }
-        requires small { N ≤ 1024 }
+        requires small { N ≤ MOST_CELLS }
         ensures trial { result ≡ trial_on (price_in self.now.offer.now)
             (seats_in self.now.offer.now) self.now.offer.now.cell self.now.row }
         ensures sites { sites.new ≡ sites_with (price_in self.now.offer.now)
@@ -156,13 +158,15 @@ impl<M: Measure> OfferedRow<'_, M> {
         spare: &mut [u32],
         kept: &mut RowSites,
     ) -> Option<Choice>
-        requires room { length spare.old ≡ 1024 }
-        requires kept { IfSome best (λ c. kept.old.items ≡ sites_with (price_in self.now.offer.now)
-            (seats_in self.now.offer.now) self.now.offer.now.cell c.row) }
+        requires room { length spare.old ≡ MOST_CELLS }
+        requires kept { IfSome best (λ c. kept.old.items ≡ sites_with
+            (price_in self.now.offer.now) (seats_in self.now.offer.now)
+            self.now.offer.now.cell c.row) }
         ensures better { result ≡ better_choice best (choice_on (price_in self.now.offer.now)
             (seats_in self.now.offer.now) self.now.offer.now.cell self.now.row) }
-        ensures kept { IfSome result (λ c. kept.new.items ≡ sites_with (price_in self.now.offer.now)
-            (seats_in self.now.offer.now) self.now.offer.now.cell c.row) }
+        ensures kept { IfSome result (λ c. kept.new.items ≡ sites_with
+            (price_in self.now.offer.now) (seats_in self.now.offer.now)
+            self.now.offer.now.cell c.row) }
     {
         if !self.has_sites() {
             return best;

@@ -47,8 +47,8 @@ impl fmt::Display for Refusal {
 
 impl Error for Refusal {}
 
-// The set call's refusal takes a fault in too: each enum says so for itself, since the trait has one
-// impl for each type.
+// The set call's refusal takes a fault in too: each enum says so for itself, since the trait has
+// one impl for each type.
 impl From<Fault> for Refusal {
     ghost from_gives = { λ fault r. r ≡ OutOfRange fault };
 

@@ -3,11 +3,13 @@ ghost use Rattle.std.specs.Prelude.{◌≡◌, ◌≤◌, [], length};
 ghost use Rattle.std.specs.List.{AllByRecursion, position_from, prefix_len};
 ghost use Rattle.std.proofs.Common.{rules};
 ghost use Rattle.std.proofs.Props.{props};
+ghost use Rattle.row.specs.declared.TheConstants.{MOST_CELLS};
 ghost use Rattle.floor.specs.Calls.{seat_of, spot};
 ghost use Rattle.floor.specs.Kept.{Ordered-prop};
 ghost use Rattle.floor.specs.Ranks.{seat_rank, seat_total};
 ghost use Rattle.floor.specs.Refusals.{stands};
-ghost use Rattle.floor.specs.Seats.{Sited, new_seat, on_row, row_key, seat_ahead, seat_cost, seat_index};
+ghost use Rattle.floor.specs.Seats.{Sited, new_seat, on_row, row_key, seat_ahead};
+ghost use Rattle.floor.specs.Seats.{seat_cost, seat_index};
 ghost use Rattle.floor.specs.Spans.{Spanned};
 ghost use Rattle.table.specs.Order.{Ordered, rank_of};
 
@@ -28,7 +30,7 @@ pub(crate) struct Seats {
     items: ArrayVec<Seat, MOST_CELLS>,
     ghost ordered: { Ordered seat_ahead items.items } by { Ordered-prop items.items },
     ghost sited: { AllByRecursion Sited items.items } by { Prim.hlevel props },
-    ghost few: { length items.items ≤ 1024 },
+    ghost few: { length items.items ≤ MOST_CELLS },
 }
 
 /// Seats are ranked by row order, then by wanted order.
@@ -66,7 +68,12 @@ impl Seat {
 
     // What a seat is ranked by: its row's line and left, then its cell's wanted site and number.
     fn rank(&self) -> (u32, u32, u32, u32)
-        ensures { result ≡ (self.now.row.line, self.now.row.left, self.now.cell.wanted.site, self.now.cell.number) }
+        ensures { result ≡ (
+          self.now.row.line,
+          self.now.row.left,
+          self.now.cell.wanted.site,
+          self.now.cell.number,
+        ) }
     {
         let Seat { cell, row, site: _ } = self;
         (row.line, row.left, cell.wanted.site, cell.number)

@@ -1,10 +1,13 @@
-//! How seats come and go: a cell joins a row whose sites are known, or leaves one that is set again.
-ghost use Rattle.std.specs.Prelude.{◌≡◌, ◌+◌, ◌<◌, ◌≤◌, false, Some, None, length, slice_get, remove};
+//! How seats come and go: a cell joins a row whose sites are known, or leaves one that is set then.
+ghost use Rattle.std.specs.Prelude.{◌≡◌, ◌+◌, ◌<◌, ◌≤◌, false, Some, None};
+ghost use Rattle.std.specs.Prelude.{length, slice_get, remove};
 ghost use Rattle.std.specs.List.{AllByRecursion};
+ghost use Rattle.measure.specs.declared.TheConstants.{LAST_PLACE};
 ghost use Rattle.row.specs.Records.{cell_fault};
 ghost use Rattle.row.specs.Costs.{sites_cost};
 ghost use Rattle.row.specs.Sites.{row_sites};
 ghost use Rattle.row.specs.Stack.{Ready};
+ghost use Rattle.row.specs.declared.TheConstants.{MOST_CELLS};
 ghost use Rattle.floor.specs.Refusals.{stands};
 ghost use Rattle.floor.specs.Seats.{cells_on, joined, moved_all, resited, settled};
 ghost use Rattle.floor.specs.Spans.{Spanned};
@@ -22,8 +25,8 @@ use std::ops::Range;
 pub(crate) fn set_ready<M: Measure>(measure: &M, row: Row, cells: &[Cell], sites: &mut [u32]) -> u64
     requires ready { Ready row cells.now }
     requires each { length sites.old ≡ length cells.now }
-    ensures answer { result
-        ≡ sites_cost (M.price measure.now) cells.now (row_sites (M.price measure.now) row cells.now) }
+    ensures answer { result ≡ sites_cost (M.price measure.now) cells.now
+        (row_sites (M.price measure.now) row cells.now) }
     ensures after { sites.new ≡ row_sites (M.price measure.now) row cells.now }
 {
     let task = Task {
@@ -49,21 +52,21 @@ impl Seats {
     // Moves the seats of a row to sites.
     fn resite(&mut self, row: Row, sites: &[u32])
         requires each { length sites.now ≡ length (cells_on row self.old.items.items) }
-        requires places { AllByRecursion (λ x. x ≤ 65535) sites.now }
+        requires places { AllByRecursion (λ x. x ≤ LAST_PLACE) sites.now }
         ensures { self.new.items.items ≡ resited row sites.now self.old.items.items }
     {
-        let stretch = self.stretch_of(row);
-        move_to(&mut self.items[stretch.start..stretch.end], sites);
+        let own = self.stretch_of(row);
+        move_to(&mut self.items[own.start..own.end], sites);
     }
 
     /// Puts a cell on a row, in its place, and moves the seats of the row to sites.
     pub(crate) fn seat(&mut self, row: Row, cell: Cell, sites: &[u32])
         requires passes { cell_fault cell ≡ None }
         requires fresh { stands cell.number self.old.items.items ≡ false }
-        requires few { length self.old.items.items < 1024 }
+        requires few { length self.old.items.items < MOST_CELLS }
         requires each { length sites.now
             ≡ length (cells_on row (joined row cell self.old.items.items)) }
-        requires places { AllByRecursion (λ x. x ≤ 65535) sites.now }
+        requires places { AllByRecursion (λ x. x ≤ LAST_PLACE) sites.now }
         ensures { self.new.items.items
             ≡ resited row sites.now (joined row cell self.old.items.items) }
     {
@@ -84,7 +87,7 @@ impl Seats {
         requires ready { Ready row (cells_on row self.old.items.items) }
         requires spanned { Spanned row self.old.items.items stretch }
         requires few { stretch.end ≤ stretch.start + N }
-        requires small { N ≤ 1024 }
+        requires small { N ≤ MOST_CELLS }
         ensures { self.new.items.items ≡ settled (M.price measure.now) row self.old.items.items }
     {
         let mut cells = RowCells::<N>::new();

@@ -14,7 +14,7 @@ use Rattle.floor.proofs.floor.Floor.place.Goals as goal
 pub seat-requires : goal.seat-requires
 seat-requires g c =
     let self = c.args.self.now in
-    let known = chose (g.met.M.Measure.fair self.measure) (tables_of self) c.args.cell self.well c.in_ok-check_cell.ensures c.in_ok-choice.ensures.value c.choose.ensures.choice c.choose.ensures.sites in
+    let known = chose (g.met.M.Measure.fair self.measure) (tables_of self) c.args.cell self.well c.in_ok-check_cell.ensures c.in-Some.is c.choose.ensures.choice c.choose.ensures.sites in
     let same = c.as_slice.ensures.value in
     record {
       passes = known.can.passes;
@@ -28,10 +28,10 @@ pub invariant_of-self : goal.invariant_of-self
 invariant_of-self g c =
     let self = c.args.self.now in
     let price = g.M.Measure.price self.measure in
-    let row = c.in_ok-choice.choice.row in
-    let known = chose (g.met.M.Measure.fair self.measure) (tables_of self) c.args.cell self.well c.in_ok-check_cell.ensures c.in_ok-choice.ensures.value c.choose.ensures.choice c.choose.ensures.sites in
+    let row = c.in-Some.choice.row in
+    let known = chose (g.met.M.Measure.fair self.measure) (tables_of self) c.args.cell self.well c.in_ok-check_cell.ensures c.in-Some.is c.choose.ensures.choice c.choose.ensures.sites in
     let seats = c.seat.ensures ∙ ap (λ xs. resited row xs (joined row c.args.cell self.seats.items.items)) c.as_slice.ensures.value in
-    let after = ap (λ seats. record { rows = self.rows.items; seats = seats }) seats ∙ ap (λ o. o.tables) (placing_is (tables_of self) c.args.cell c.in_ok-choice.choice known) in
+    let after = ap (λ seats. record { rows = self.rows.items; seats = seats }) seats ∙ ap (λ o. o.tables) (placing_is (tables_of self) c.args.cell c.in-Some.choice known) in
     record {
       few = self.few;
       well = ap (formed self.rows.items) (seats ∙ ap (λ xs. resited row xs (joined row c.args.cell self.seats.items.items)) known.sites) ∙ known.well;
@@ -41,16 +41,16 @@ invariant_of-self g c =
 pub returns-clause-answer : goal.returns-clause-answer
 returns-clause-answer g c =
     let self = c.args.self.now in
-    let known = chose (g.met.M.Measure.fair self.measure) (tables_of self) c.args.cell self.well c.in_ok-check_cell.ensures c.in_ok-choice.ensures.value c.choose.ensures.choice c.choose.ensures.sites in
-    ap (λ o. o.answer) (placing_is (tables_of self) c.args.cell c.in_ok-choice.choice known)
+    let known = chose (g.met.M.Measure.fair self.measure) (tables_of self) c.args.cell self.well c.in_ok-check_cell.ensures c.in-Some.is c.choose.ensures.choice c.choose.ensures.sites in
+    ap (λ o. o.answer) (placing_is (tables_of self) c.args.cell c.in-Some.choice known)
 
 pub returns-clause-tables : goal.returns-clause-tables
 returns-clause-tables g c =
     let self = c.args.self.now in
-    let row = c.in_ok-choice.choice.row in
-    let known = chose (g.met.M.Measure.fair self.measure) (tables_of self) c.args.cell self.well c.in_ok-check_cell.ensures c.in_ok-choice.ensures.value c.choose.ensures.choice c.choose.ensures.sites in
+    let row = c.in-Some.choice.row in
+    let known = chose (g.met.M.Measure.fair self.measure) (tables_of self) c.args.cell self.well c.in_ok-check_cell.ensures c.in-Some.is c.choose.ensures.choice c.choose.ensures.sites in
     ap (λ seats. record { rows = self.rows.items; seats = seats }) (c.seat.ensures ∙ ap (λ xs. resited row xs (joined row c.args.cell self.seats.items.items)) c.as_slice.ensures.value)
-    ∙ ap (λ o. o.tables) (placing_is (tables_of self) c.args.cell c.in_ok-choice.choice known)
+    ∙ ap (λ o. o.tables) (placing_is (tables_of self) c.args.cell c.in-Some.choice known)
 
 pub returns-clause-least : goal.returns-clause-least
 returns-clause-least g c =

@@ -1,9 +1,8 @@
-use Rattle.std.proofs.Common.{Ok, refl, sym, ap, ◌∙◌, subst}
-use Rattle.floor.specs.Calls.{outcome_without}
+use Rattle.std.proofs.Common.{Ok, sym, ap, ◌∙◌, subst}
 use Rattle.floor.specs.Formed.{formed}
 use Rattle.floor.specs.Settled.{Settled}
 use Rattle.floor.specs.State.{tables_of}
-use Rattle.floor.proofs.Leaving.{found_known, not_found, withdraw_formed, withdraw_settled}
+use Rattle.floor.proofs.Leaving.{found_known, withdraw_formed, withdraw_settled}
 use Rattle.floor.proofs.floor.Floor.withdraw.Goals as goal
 
 -- the goals stand at places of the body whose facts have types of their own: so `found_known` is given them at each
@@ -36,14 +35,3 @@ returns-clause-tables g c =
     let self = c.args.self.now in
     let known = found_known (g.M.Measure.price self.measure) (tables_of self) c.args.number c.in-Some.at self.well self.seats.few c.position.ensures c.in-Some.is in
     ap (λ seats. record { rows = self.rows.items; seats = seats }) c.unseat-seat.ensures.left ∙ ap (λ o. o.tables) (known.is c.unseat-seat.result c.unseat-seat.ensures.taken)
-
-pub returns-in_default : goal.returns-in_default
-returns-in_default g c =
-    let self = c.args.self.now in
-    let price = g.M.Measure.price self.measure in
-    let none = not_found c.args.number self.seats.items.items (sym c.position.ensures ∙ c.in_default.is) in
-    record {
-      answer = sym (ap (λ o. (outcome_without price (tables_of self) c.args.number o).answer) none);
-      tables = sym (ap (λ o. (outcome_without price (tables_of self) c.args.number o).tables) none);
-      same = refl;
-    }

@@ -1,10 +1,10 @@
-use Rattle.std.proofs.Common.{◌≡◌, Some, slice_get, length, remove, refl, sym, ap, ◌∙◌, subst, arith}
+use Rattle.std.proofs.Common.{◌≡◌, Some, slice_get, length, remove, refl, sym, ap, subst, arith}
 use Rattle.std.proofs.lemmas.Option.{slice_get_read}
 use Rattle.std.proofs.lemmas.List.Edits.{length-remove}
 use Rattle.std.specs.List.{AllByRecursion}
 use Rattle.row.specs.Stack.{Ready}
 use Rattle.table.specs.Order.{Ordered}
-use Rattle.floor.specs.Seats.{Sited, seat_ahead, cells_on, settled}
+use Rattle.floor.specs.Seats.{Sited, seat_ahead, cells_on}
 use Rattle.floor.proofs.Removed.{removed_all, removed_ordered}
 use Rattle.floor.proofs.seats.Seats.unseat.Goals as goal
 
@@ -30,11 +30,7 @@ settle-requires g c =
     let taken : slice_get seats c.args.at ≡ Some seat = slice_get_read seats (length seats) c.args.at seat refl c.requires.within c.remove-seat.ensures.value in
     subst (λ l. Ready seat.row (cells_on seat.row l)) (sym c.remove-seat.ensures.items) (c.requires.ready seat taken)
 
-pub returns : goal.returns
-returns g c =
+pub returns-clause-taken : goal.returns-clause-taken
+returns-clause-taken g c =
     let seats = c.args.self.now.items.items in
-    let seat = c.remove-seat.result in
-    record {
-      taken = slice_get_read seats (length seats) c.args.at seat refl c.requires.within c.remove-seat.ensures.value;
-      left = c.settle.ensures ∙ ap (settled (g.M.Measure.price c.args.measure.now) seat.row) c.remove-seat.ensures.items;
-    }
+    slice_get_read seats (length seats) c.args.at c.remove-seat.result refl c.requires.within c.remove-seat.ensures.value
