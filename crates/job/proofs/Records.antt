@@ -1,12 +1,14 @@
 -- What is left of a job: after a record it is one record less, whatever the bound on answers.
-use Rattle.std.proofs.Common.{◌≡◌, ℕ, zero, suc, ◌+◌, ◌-◌, ◌<◌, List, [], ◌∷◌, length, Some, None, Ok, Err, Option, Result, refl, sym, ap, subst, ◌∙◌, add-one, arith}
+use Rattle.std.proofs.Common.{◌≡◌, ℕ, zero, suc, ◌+◌, ◌-◌, ◌<◌, ◌≤◌, cond, eqb, List, [], ◌∷◌, length, take, slice_index, Some, None, Ok, Err, Option, Result, refl, sym, ap, subst, ◌∙◌, add-one, ⊎_elim, length-take, take_all, arith}
+use Rattle.std.proofs.lemmas.Bool.{cases_lt, lt-leb}
 use Rattle.std.specs.Result.{result_map_both}
 use Rattle.measure.specs.declared.name.MeasureName.{MeasureName}
 use Rattle.job.specs.Format.{Content}
-use Rattle.job.specs.Opening.{Opened, opening, open_answer}
+use Rattle.job.specs.Opening.{Opened, measure_named, opening, open_answer}
 use Rattle.job.specs.Reading.{Standing, Passed, at_start, next_answer, next_standing}
 use Rattle.job.specs.Records.{Rest, AllLeft, NoneLeft, Takes, with_answer, rest_within, rest_of, records_of, fault_of, index_after, opened_rest}
 use Rattle.job.specs.declared.record.Cause.{Cause}
+use Rattle.job.specs.declared.record.Cause.TheVariants.{EndsEarly, TooLong}
 use Rattle.job.specs.declared.record.Fault.{Fault}
 use Rattle.job.proofs.Advance.{ended, passed, stays}
 
@@ -67,3 +69,27 @@ all_left {bytes} {measure} {s} opens start =
 pub none_left : {bytes : List ℕ} {cause : Cause} → Err cause ≡ opening bytes → NoneLeft bytes (record { cause = cause; index = 0; place = 0 })
 unfolding records_of fault_of
 none_left {bytes} {cause} is = let answer = ap (answer_by bytes) (sym is) in record { records = ap (λ a. (opened_rest a).records) answer; fault = ap (λ a. (opened_rest a).fault) answer }
+
+-- a job of more than 65,535 bytes is too long
+too_long : (bytes : List ℕ) → 65535 < length bytes → opening bytes ≡ Err TooLong
+too_long bytes long = ap (λ b. cond b (cond (eqb (length bytes) 0) (Err EndsEarly) (measure_named (slice_index bytes 0))) (Err TooLong)) (lt-leb (length bytes) 65535 long)
+
+-- cut off after one byte more than a job may have, bytes are the same job
+pub record SameJob (cut bytes : List ℕ) : Type 0 where
+  pub opens : opening cut ≡ opening bytes
+  pub records : records_of cut ≡ records_of bytes
+  pub fault : fault_of cut ≡ fault_of bytes
+
+pub same_job : (bytes : List ℕ) → SameJob (take 65536 bytes) bytes
+same_job bytes = ⊎_elim short long (cases_lt 65536 (length bytes))
+  where
+    short : 65536 < length bytes → SameJob (take 65536 bytes) bytes
+    short h =
+        let cut = too_long (take 65536 bytes) (omega (arith, length-take 65536 bytes)) in
+        let whole = too_long bytes (omega arith) in
+        let one = none_left (sym cut) in
+        let other = none_left (sym whole) in
+        record { opens = cut ∙ sym whole; records = one.records ∙ sym other.records; fault = one.fault ∙ sym other.fault }
+
+    long : length bytes ≤ 65536 → SameJob (take 65536 bytes) bytes
+    long h = let e : take 65536 bytes ≡ bytes = take_all 65536 bytes h in record { opens = ap opening e; records = ap records_of e; fault = ap fault_of e }

@@ -5,6 +5,8 @@
 mod listed;
 mod parts;
 mod pieces;
+mod whole;
 
 pub use listed::put_job;
 pub use parts::put_line;
+pub use whole::list;

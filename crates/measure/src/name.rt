@@ -1,4 +1,4 @@
-//! The two measures by name, for programs whose input says which one counts.
+// The two measures by name, for programs whose input says which one counts.
 ghost use Rattle.std.specs.Prelude.{Some, codes};
 ghost use Rattle.measure.specs.Names.{Decodes, named_fair, named_price, word};
 

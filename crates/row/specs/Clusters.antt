@@ -1,11 +1,7 @@
--- Clusters: runs of abutting cells, and how they are joined.
---   Cluster          a site and the cells that abut from it
---   push             a cluster set after others: joined while it starts before the end of the one before it
---   settle           cells taken one after another, each pushed as a cluster of its own
---   laid             the sites of the cells of all clusters, from the first cell on
--- The last cluster stands first in a list of clusters.
-use Rattle.std.specs.Prelude.{ℕ, ◌+◌, cond, List, [], ◌∷◌, ◌++◌, nat_lt}
+-- Clusters: runs of abutting cells, and how they are joined. In a list of them the last stands first.
+use Rattle.std.specs.Prelude.{ℕ, ◌+◌, if◌then◌else◌, List, [], ◌∷◌, ◌++◌, nat_lt}
 
+-- a site, and the cells that abut from it
 pub record Cluster (A : Type 0) : Type 0 where
   pub site : ℕ
   pub cells : List A
@@ -20,7 +16,10 @@ module _ {A : Type 0} (reach : List A → List A → ℕ) (best : List A → ℕ
   -- a cluster after others: while it starts before the end of the one before it, the two are joined
   abbrev pub push : Cluster A → List (Cluster A) → List (Cluster A)
   push k [] = k ∷ []
-  push k (b ∷ rest) = cond (nat_lt k.site (b.site + reach b.cells k.cells)) (push (at_best (b.cells ++ k.cells)) rest) (k ∷ b ∷ rest)
+  push k (b ∷ rest) =
+      if nat_lt k.site (b.site + reach b.cells k.cells)
+      then push (at_best (b.cells ++ k.cells)) rest
+      else k ∷ b ∷ rest
 
   -- cells taken one after another on top of the clusters that are there
   abbrev pub settle : List A → List (Cluster A) → List (Cluster A)

@@ -1,7 +1,4 @@
 -- What a cell costs where it stands.
---   site_cost, line_cost     what its site costs, and what its line costs
---   site_step                what a step to the right costs it
---   sites_cost               what the sites of cells cost
 use Rattle.std.specs.Prelude.{ℕ, ◌+◌, List, [], ◌∷◌, ℤ}
 use Rattle.measure.specs.Costs.{Price, step_of}
 use Rattle.row.specs.declared.Cell.{Cell}

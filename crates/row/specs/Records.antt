@@ -1,11 +1,7 @@
 -- Cells and rows: the ranges of their fields, and wanted order.
---   check          a failure where a test does not pass, and else what the checks after it say; then: checks that are made elsewhere, and those after them
---   cell_fault     the first field of a cell that is outside its range, if there is one
---   row_fault      the same of a row
---   before         wanted order: by wanted site, then by number
---   row_ahead      row order: by line, then by left
---   widths         the sites that cells cover together
 use Rattle.std.specs.Prelude.{ℕ, ◌+◌, Bool, cond, ◌&&◌, ◌||◌, List, [], ◌∷◌, Some, None, Option, ◌==◌, nat_le, nat_lt}
+use Rattle.measure.specs.declared.TheConstants.{LAST_PLACE, MOST_WEIGHT}
+use Rattle.row.specs.declared.check.TheConstants.{LAST_LINE, LAST_NUMBER, MOST_WIDTH}
 use Rattle.row.specs.declared.Cell.{Cell}
 use Rattle.row.specs.declared.Row.{Row as RowRecord}
 use Rattle.row.specs.declared.Fault.{Fault}
@@ -20,21 +16,25 @@ abbrev pub then : {E : Type 0} → Option E → Option E → Option E
 then (Some failure) others = Some failure
 then None others = others
 
--- a cell's checks in their order: wanted site up to 65,535 and wanted line up to 4,095; width 1 to 1,000; weight 1 to 1,000; number up to 65,535
+-- the first field of a cell that is outside its range, if one is: wanted site up to 65,535 and
+-- wanted line up to 4,095; width 1 to 1,000; weight 1 to 1,000; number up to 65,535
 abbrev pub cell_fault : Cell → Option Fault
 cell_fault c =
-    check (nat_le c.wanted.site 65535 && nat_le c.wanted.line 4095) fault.Wanted
-    (check (nat_le 1 c.width && nat_le c.width 1000) fault.Width
-    (check (nat_le 1 c.weight && nat_le c.weight 1000) fault.Weight
-    (check (nat_le c.number 65535) fault.Number None)))
+    check (nat_le c.wanted.site LAST_PLACE && nat_le c.wanted.line LAST_LINE) fault.Wanted
+    (check (nat_le 1 c.width && nat_le c.width MOST_WIDTH) fault.Width
+    (check (nat_le 1 c.weight && nat_le c.weight MOST_WEIGHT) fault.Weight
+    (check (nat_le c.number LAST_NUMBER) fault.Number None)))
 
--- a row's check: line up to 4,095, and left < right ≤ 65,535
+-- whether a row is outside its ranges: line up to 4,095, and left < right ≤ 65,535
 abbrev pub row_fault : RowRecord → Option Fault
-row_fault r = check (nat_le r.line 4095 && (nat_lt r.left r.right && nat_le r.right 65535)) fault.Row None
+row_fault r =
+    check (nat_le r.line LAST_LINE && (nat_lt r.left r.right && nat_le r.right LAST_PLACE)) fault.Row None
 
 -- wanted order: by wanted site, then by number
 abbrev pub before : Cell → Cell → Bool
-before c d = nat_lt c.wanted.site d.wanted.site || (c.wanted.site == d.wanted.site && nat_lt c.number d.number)
+before c d =
+    nat_lt c.wanted.site d.wanted.site
+    || (c.wanted.site == d.wanted.site && nat_lt c.number d.number)
 
 -- row order: by line, then by left
 abbrev pub row_ahead : RowRecord → RowRecord → Bool

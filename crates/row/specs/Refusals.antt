@@ -1,9 +1,7 @@
 -- What `set` refuses, and the number of each refusal.
---   fault_number      the number of a field outside its range; number_of: a refusal's number
---   next_refusal      the refusal of a cell after the one before it; cells_refusal: of cell after cell
---   set_refusal       the refusal of the first of the checks of `set` that fails, if one does
 use Rattle.std.specs.Prelude.{ℕ, ◌-◌, Bool, true, ◌&&◌, List, [], ◌∷◌, length, Some, None, Option, ◌==◌, nat_le}
 use Rattle.std.specs.Option.{option_map}
+use Rattle.row.specs.declared.TheConstants.{MOST_CELLS}
 use Rattle.row.specs.declared.Cell.{Cell}
 use Rattle.row.specs.declared.Row.{Row as RowRecord}
 use Rattle.row.specs.declared.Fault.{Fault}
@@ -12,6 +10,7 @@ use Rattle.row.specs.declared.Refusal.{Refusal}
 use Rattle.row.specs.declared.Refusal.TheVariants.{OutOfRange, Size, Order, TooWide}
 use Rattle.row.specs.Records.{check, then, cell_fault, row_fault, before, widths}
 
+-- the number of a field that is outside its range
 abbrev pub fault_number : Fault → ℕ
 fault_number Wanted = 1
 fault_number Width = 2
@@ -33,17 +32,19 @@ comes_after (Some b) c = before b c
 
 -- the checks of one cell: its own, then that it comes after the one before it
 abbrev pub next_refusal : Option Cell → Cell → Option Refusal
-next_refusal last c = then (option_map OutOfRange (cell_fault c)) (check (comes_after last c) Order None)
+next_refusal last c =
+    then (option_map OutOfRange (cell_fault c)) (check (comes_after last c) Order None)
 
 -- the checks of cell after cell
 abbrev pub cells_refusal : Option Cell → List Cell → Option Refusal
 cells_refusal last [] = None
 cells_refusal last (c ∷ cs) = then (next_refusal last c) (cells_refusal (Some c) cs)
 
--- the checks of `set` in their order: the row; at most 1,024 cells and as many sites; cell after cell; that the cells fit the row
+-- the checks of `set` in their order: the row; at most 1,024 cells and as many sites; cell after
+-- cell; that the cells fit the row
 abbrev pub set_refusal : RowRecord → List Cell → ℕ → Option Refusal
 set_refusal row cells sites =
     then (option_map OutOfRange (row_fault row))
-    (check (nat_le (length cells) 1024 && sites == length cells) Size
+    (check (nat_le (length cells) MOST_CELLS && sites == length cells) Size
     (then (cells_refusal None cells)
     (check (nat_le (widths cells) (row.right - row.left)) TooWide None)))

@@ -12,8 +12,8 @@ abbrev pub weights : List Cell → ℕ
 weights [] = 0
 weights (c ∷ cs) = c.weight + weights cs
 
--- the pull of cells that abut, the first of them `distance` sites from the cluster's start: the sum, over the cells,
--- of the weight times the wanted site less the cell's distance from that start
+-- the pull of cells that abut, the first of them `distance` sites from the cluster's start: the
+-- sum, over the cells, of the weight times the wanted site less the cell's distance from that start
 abbrev pub pull_at : ℕ → List Cell → ℤ
 pull_at distance [] = pos 0
 pull_at distance (c ∷ cs) =
@@ -23,8 +23,8 @@ pull_at distance (c ∷ cs) =
 abbrev pub pull : List Cell → ℤ
 pull cells = pull_at 0 cells
 
--- a whole number that is the nearest one to q / e, the lower one of two that are equally near: from q / e - 1/2 on,
--- and below q / e + 1/2, both sides times 2 * e
+-- the whole number nearest to q / e, the lower one of two that are equally near: it is at least
+-- q / e - 1/2 and below q / e + 1/2, which stands here times 2 * e
 pub record Nearest (q : ℤ) (e : ℕ) (x : ℤ) : Type 0 where
   pub from : ((q +ℤ q) -ℤ pos e) ≤ℤ (pos (2 * e) *ℤ x)
   pub below : (pos (2 * e) *ℤ x) <ℤ ((q +ℤ q) +ℤ pos e)
@@ -33,7 +33,8 @@ pub record Nearest (q : ℤ) (e : ℕ) (x : ℤ) : Type 0 where
 abbrev pub limited : Row → List Cell → ℤ → ℤ
 limited row cells x = int_max (pos row.left) (int_min x (pos (row.right - widths cells)))
 
--- a cluster's best site: its pull by its weights, rounded to the nearest site with halves down, and limited to the row
+-- a cluster's best site: its pull by its weights, rounded to the nearest site with halves down,
+-- and limited to the row
 pub record BestRounds (row : Row) (cells : List Cell) : Type 0 where
   pub site : ℤ
   pub nearest : Nearest (pull cells) (weights cells) site

@@ -1,13 +1,4 @@
 -- Settings of one row, in the words of its users: cells and their sites.
---   Placed            a cell and the site that it has; it covers its width from there on
---   placed            cells with their sites, one by one
---   EveryPair         of every two of some things, the earlier one first
---   Covers            a cell covers a site; Within: it lies within a row; Clear: two cells cover no site both
---   Rising            of two cells, the one that is wanted first has the smaller site
---   Legal             every cell lies within the row, and no two cells share a site
---   InWantedOrder     of any two cells, the one that is wanted before the other has the smaller site
---   Setting           a site for each cell that is legal and in wanted order
---   Cheapest          a setting; every other setting costs at least as much, and one that costs the same has no cell further left
 use Rattle.std.specs.Prelude.{◌≡◌, ℕ, ◌+◌, ◌<◌, ◌≤◌, true, List, [], ◌∷◌, length}
 use Rattle.std.specs.List.{AllZip, AllByRecursion}
 use Rattle.measure.specs.Costs.{Price}
@@ -44,13 +35,17 @@ Within row p = (row.left ≤ p.site) × (p.site + p.cell.width ≤ row.right)
 abbrev pub Clear : Placed → Placed → Type 0
 Clear p q = (s : ℕ) → Covers p s → Covers q s → ⊥
 
+-- every cell lies within the row, and no two share a site
 abbrev pub Legal : Row → List Placed → Type 0
 Legal row ps = AllByRecursion (Within row) ps × EveryPair Clear ps
 
--- the one that is wanted first has the smaller site
+-- of two cells, the one that is wanted first has the smaller site
 abbrev pub Rising : Placed → Placed → Type 0
-Rising p q = (before p.cell q.cell ≡ true → p.site < q.site) × (before q.cell p.cell ≡ true → q.site < p.site)
+Rising p q =
+    (before p.cell q.cell ≡ true → p.site < q.site)
+    × (before q.cell p.cell ≡ true → q.site < p.site)
 
+-- of any two cells, the one that is wanted first has the smaller site
 abbrev pub InWantedOrder : List Placed → Type 0
 InWantedOrder ps = EveryPair Rising ps
 
@@ -60,8 +55,12 @@ pub record Setting (row : Row) (cells : List Cell) (sites : List ℕ) : Type 0 w
   pub legal : Legal row (placed cells sites)
   pub in_order : InWantedOrder (placed cells sites)
 
--- of all settings the cheapest, and of the cheapest the leftmost
+-- of all settings the cheapest, and of the cheapest the leftmost: no cell is further right in it
+-- than in another that costs the same
 pub record Cheapest (price : Price) (row : Row) (cells : List Cell) (sites : List ℕ) : Type 0 where
   pub setting : Setting row cells sites
-  pub cheapest : (others : List ℕ) → Setting row cells others → sites_cost price cells sites ≤ sites_cost price cells others
-  pub leftmost : (others : List ℕ) → Setting row cells others → sites_cost price cells others ≡ sites_cost price cells sites → AllZip ◌≤◌ sites others
+  pub cheapest : (others : List ℕ) → Setting row cells others
+      → sites_cost price cells sites ≤ sites_cost price cells others
+  pub leftmost : (others : List ℕ) → Setting row cells others
+      → sites_cost price cells others ≡ sites_cost price cells sites
+      → AllZip ◌≤◌ sites others

@@ -1,13 +1,5 @@
 -- Setting one row: what its sites are.
---   abut              the sites of cells that abut from a site on
---   cluster_rise      the rise of abutting cells: the sum of their rises at the sites that they have
---   climbs            whether that rise is at least 0
---   least             the least of some places that passes a test, or the last of them
---   best_site         where a cluster stands best: the least site that is the last one or has a rise of at least 0
---   reach             from the start of a cluster to where the next may start
---   row_clusters      the clusters of a row, by joining (see Clusters)
---   row_sites         the sites of a row's cells
-use Rattle.std.specs.Prelude.{ℕ, zero, suc, ◌+◌, ◌-◌, Bool, cond, List, [], ◌∷◌, ℤ, pos, ◌+ℤ◌, int_le}
+use Rattle.std.specs.Prelude.{ℕ, zero, suc, ◌+◌, ◌-◌, Bool, if◌then◌else◌, List, [], ◌∷◌, ℤ, pos, ◌+ℤ◌, int_le}
 use Rattle.measure.specs.Costs.{Price}
 use Rattle.row.specs.Clusters.{Cluster, settle, laid}
 use Rattle.row.specs.Costs.{site_step}
@@ -32,9 +24,10 @@ climbs price cs x = int_le (pos 0) (cluster_rise price cs x)
 -- the least place from x on that passes the test, or the last of them, which is n places on
 abbrev pub least : (ℕ → Bool) → ℕ → ℕ → ℕ
 least test x zero = x
-least test x (suc n) = cond (test x) x (least test (x + 1) n)
+least test x (suc n) = if test x then x else least test (x + 1) n
 
--- the best site of a cluster: the least from left to right - its width that is the last of these or has a rise of at least 0
+-- the best site of a cluster: the least, from the row's left to its right less the width, where
+-- the rise is at least 0, or the last of them
 abbrev pub best_site : Price → Row → List Cell → ℕ
 best_site price row cs = least (climbs price cs) row.left (row.right - widths cs - row.left)
 

@@ -1,7 +1,4 @@
 -- What `set` answers, and the `set` of a task, and what the sites hold then.
---   granted          a value where nothing is refused; changed: what stands after a call
---   set_answer       the cost of the row's sites, or the refusal
---   set_sites        the row's sites, or, where it refuses, the sites as they were
 use Rattle.std.specs.Prelude.{ℕ, List, length, Some, None, Ok, Err, Option, Result}
 use Rattle.measure.specs.Costs.{Price}
 use Rattle.row.specs.Refusals.{set_refusal}
@@ -21,8 +18,12 @@ abbrev pub changed : {X E : Type 0} → Option E → X → X → X
 changed None new old = new
 changed (Some refusal) new old = old
 
+-- what `set` answers: the cost of the row's sites, or the refusal
 abbrev pub set_answer : Price → Row → List Cell → List ℕ → Result ℕ Refusal
-set_answer price row cells sites = granted (set_refusal row cells (length sites)) (sites_cost price cells (row_sites price row cells))
+set_answer price row cells sites =
+    granted (set_refusal row cells (length sites)) (sites_cost price cells (row_sites price row cells))
 
+-- what the sites hold then: the row's sites, or, where it refuses, what they held
 abbrev pub set_sites : Price → Row → List Cell → List ℕ → List ℕ
-set_sites price row cells sites = changed (set_refusal row cells (length sites)) (row_sites price row cells) sites
+set_sites price row cells sites =
+    changed (set_refusal row cells (length sites)) (row_sites price row cells) sites

@@ -17,7 +17,8 @@ const MOST_WIDTH: u32 = 1_000;
 const LAST_NUMBER: u32 = 65_535;
 
 impl Row {
-    // Refuses a row that is outside its ranges.
+    /// Refuses a row that is outside its ranges: line up to 4,095, left < right, and right up to
+    /// 65,535.
     pub fn check(&self) -> Result<(), Fault>
         ensures { checked result ≡ row_fault self.now }
     {
@@ -29,7 +30,9 @@ impl Row {
 }
 
 impl Cell {
-    // Refuses a cell that has a field outside its range.
+    /// Refuses a cell that has a field outside its range, by the first of them: wanted site up to
+    /// 65,535 and wanted line up to 4,095, width 1 to 1,000, weight 1 to 1,000, number up to
+    /// 65,535.
     pub fn check(&self) -> Result<(), Fault>
         ensures { checked result ≡ cell_fault self.now }
     {

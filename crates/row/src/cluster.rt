@@ -7,7 +7,8 @@ use crate::task::Task;
 use arrayvec::ArrayVec;
 use measure::Measure;
 
-// A cluster: the cells from `first` to `past` - 1 of a list, which abut from `site` on and cover `width` sites.
+// A cluster: the cells from `first` to `past` - 1 of a list, which abut from `site` on and cover
+// `width` sites.
 #[derive(Clone, Copy, Default)]
 pub(crate) struct Cluster {
     pub(crate) first: usize,
@@ -33,7 +34,8 @@ impl<'a, M: Measure> Task<'a, M> {
     // The cell at `first` as a cluster of its own, at its best site.
     fn alone(&self, first: usize) -> Cluster
         requires { first < length self.now.cells.now }
-        ensures { AtBest (M.price self.now.measure.now) self.now.row self.now.cells.now first (first + 1) result }
+        ensures { AtBest (M.price self.now.measure.now) self.now.row self.now.cells.now
+            first (first + 1) result }
     {
         let past = first + 1;
         let Cell { wanted, width, .. } = self.cells[first];
@@ -52,8 +54,10 @@ impl<'a, M: Measure> Task<'a, M> {
     // Two clusters that follow one another as one, at its best site.
     fn joined(&self, before: Cluster, last: Cluster) -> Cluster
         requires follows { Follows self.now.cells.now before last }
-        requires bracketed { Bracketed (M.price self.now.measure.now) self.now.row self.now.cells.now before last }
-        ensures { AtBest (M.price self.now.measure.now) self.now.row self.now.cells.now before.first last.past result }
+        requires bracketed { Bracketed (M.price self.now.measure.now) self.now.row self.now.cells.now
+            before last }
+        ensures { AtBest (M.price self.now.measure.now) self.now.row self.now.cells.now
+            before.first last.past result }
     {
         let first = before.first;
         let past = last.past;
@@ -69,12 +73,15 @@ impl<'a, M: Measure> Task<'a, M> {
         }
     }
 
-    // Takes the cell at `first`: it is joined to the clusters before it while it starts before their end.
+    // Takes the cell at `first`: it is joined to the clusters before it while it starts before
+    // their end.
     fn add<const N: usize>(&self, first: usize, clusters: &mut Clusters<N>)
         requires within { first < length self.now.cells.now }
         requires few { length self.now.cells.now ≤ N }
-        requires holds { Holds (M.price self.now.measure.now) self.now.row self.now.cells.now first clusters.old.items }
-        ensures { Holds (M.price self.now.measure.now) self.now.row self.now.cells.now (first + 1) clusters.new.items }
+        requires holds { Holds (M.price self.now.measure.now) self.now.row self.now.cells.now
+            first clusters.old.items }
+        ensures { Holds (M.price self.now.measure.now) self.now.row self.now.cells.now
+            (first + 1) clusters.new.items }
     {
         let mut last = self.alone(first);
         while let Some(&before) = clusters.last()
@@ -90,7 +97,8 @@ impl<'a, M: Measure> Task<'a, M> {
     pub(crate) fn put_clusters<const N: usize>(&self, clusters: &mut Clusters<N>)
         requires few { length self.now.cells.now ≤ N }
         requires none { clusters.old.items ≡ [] }
-        ensures { Holds (M.price self.now.measure.now) self.now.row self.now.cells.now (length self.now.cells.now) clusters.new.items }
+        ensures { Holds (M.price self.now.measure.now) self.now.row self.now.cells.now
+            (length self.now.cells.now) clusters.new.items }
     {
         // By place: a cluster is a run of places in the cells.
         for first in 0..self.cells.len() {

@@ -1,4 +1,7 @@
-// Cells and rows, wanted order, and `set`, which sets one row of cells; a `Task` is a row that needs no checks.
+//! Cells and rows, wanted order, and `set`, which sets one row of cells.
+//!
+//! A [`Task`] is a row with cells that need no checks. Of all legal settings in wanted order the
+//! one that is found is the cheapest, and of the cheapest the leftmost.
 #![tactic(auto)]
 
 mod check;
@@ -14,23 +17,25 @@ pub use setting::set;
 pub use squared::squared_best_sites;
 pub use task::Task;
 
-// How many cells a row is set with at most.
+/// How many cells a row is set with at most.
 pub const MOST_CELLS: usize = 1_024;
 
-// Most rows have no more cells than this. Room on the stack is made sooner where it need hold only so many.
+/// Most rows have no more cells than this. Room on the stack is made sooner where it need hold
+/// only so many.
 pub const FEW_CELLS: usize = 32;
 
-// Nearly all rows have no more cells than this: the room between the least and the most.
+/// Nearly all rows have no more cells than this: the room between the least and the most.
 pub const MANY_CELLS: usize = 256;
 
-// A site on a line.
+/// A site on a line.
 #[derive(Clone, Copy, PartialEq, Eq, Debug, Default)]
 pub struct Spot {
     pub line: u32,
     pub site: u32,
 }
 
-// A cell: its number, where it is wanted, how many sites it covers, and how much its moves weigh.
+/// A cell: its number, where it is wanted, how many sites it covers, and how much its moves
+/// weigh.
 #[derive(Clone, Copy, PartialEq, Eq, Debug, Default)]
 pub struct Cell {
     pub number: u32,
@@ -39,7 +44,7 @@ pub struct Cell {
     pub weight: u32,
 }
 
-// A row: the sites from `left` to `right` - 1 of a line.
+/// A row: the sites from `left` to `right` - 1 of a line.
 #[derive(Clone, Copy, PartialEq, Eq, Debug, Default)]
 pub struct Row {
     pub line: u32,

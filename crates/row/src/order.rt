@@ -7,7 +7,7 @@ use crate::{Cell, Row};
 use table::Ranked;
 
 impl Cell {
-    // Whether this cell comes before another in wanted order: by wanted site, then by number.
+    /// Whether this cell comes before another in wanted order: by wanted site, then by number.
     pub fn is_before(&self, other: &Cell) -> bool
         ensures { result ≡ before self.now other.now }
     {
@@ -15,7 +15,7 @@ impl Cell {
     }
 }
 
-// Rows are ranked in row order: by line, then by left.
+/// Rows are ranked in row order: by line, then by left.
 impl Ranked for Row {
     ghost ahead = { row_ahead };
 

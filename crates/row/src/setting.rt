@@ -14,16 +14,19 @@ use crate::{Cell, FEW_CELLS, MANY_CELLS, MOST_CELLS, Refusal, Row};
 use measure::Measure;
 
 impl<'a, M: Measure> Task<'a, M> {
-    // Writes the sites of the cells where they abut from `start` on, and answers what they cost there.
+    // Writes the sites of the cells where they abut from `start` on, and answers what they cost
+    // there.
     fn abut_from(&self, start: u32, sites: &mut [u32]) -> u64
         requires each { length sites.old ≡ length self.now.cells.now }
         requires inside { start + widths self.now.cells.now ≤ 65535 }
-        ensures answer { result ≡ sites_cost (M.price self.now.measure.now) self.now.cells.now (abut self.now.cells.now start) }
+        ensures answer { result ≡ sites_cost (M.price self.now.measure.now) self.now.cells.now
+            (abut self.now.cells.now start) }
         ensures after { sites.new ≡ abut self.now.cells.now start }
     {
         let mut cost: u64 = 0;
         let mut site = start;
-        // By place: over a `zip` with `iter_mut` an invariant has no name for what has been written, so the proof does not close.
+        // By place: over a `zip` with `iter_mut` an invariant has no name for what has been
+        // written, so the proof does not close.
         for (i, cell) in self.cells.iter().enumerate() {
             sites[i] = site;
             cost += cell.site_cost(self.measure, site);
@@ -32,14 +35,17 @@ impl<'a, M: Measure> Task<'a, M> {
         cost
     }
 
-    // Writes the sites of the cells of one cluster, leaves the others, and answers what these cells cost.
+    // Writes the sites of the cells of one cluster, leaves the others, and answers what these
+    // cells cost.
     fn lay_one(&self, cluster: Cluster, sites: &mut [u32]) -> u64
         requires within { cluster.past ≤ length self.now.cells.now }
         requires room { cluster.past ≤ length sites.old }
         requires spans { Spans self.now.cells.now cluster.past cluster }
         requires inside { InPlaces cluster }
-        ensures answer { result ≡ sites_cost (M.price self.now.measure.now) (part self.now.cells.now cluster) (abut (part self.now.cells.now cluster) cluster.site) }
-        ensures after { sites.new ≡ take cluster.first sites.old ++ (abut (part self.now.cells.now cluster) cluster.site ++ drop cluster.past sites.old) }
+        ensures answer { result ≡ sites_cost (M.price self.now.measure.now)
+            (part self.now.cells.now cluster) (abut (part self.now.cells.now cluster) cluster.site) }
+        ensures after { sites.new ≡ take cluster.first sites.old
+            ++ (abut (part self.now.cells.now cluster) cluster.site ++ drop cluster.past sites.old) }
     {
         let first = cluster.first;
         let past = cluster.past;
@@ -47,15 +53,18 @@ impl<'a, M: Measure> Task<'a, M> {
             .abut_from(cluster.site, &mut sites[first..past])
     }
 
-    // Fills `sites` with the sites of the row's cells, and answers what they cost, in room for `N` clusters.
-    // It is a call of its own for each `N`, so that a row of few cells does not pay for the room of one that has many.
+    // Fills `sites` with the sites of the row's cells, and answers what they cost, in room for `N`
+    // clusters. It is a call of its own for each `N`, so that a row of few cells does not pay for
+    // the room of one that has many.
     #[inline(never)]
     fn set_in<const N: usize>(&self, sites: &mut [u32]) -> u64
         requires few { length self.now.cells.now ≤ N }
         requires small { N ≤ 1024 }
         requires each { length sites.old ≡ length self.now.cells.now }
-        ensures answer { result ≡ sites_cost (M.price self.now.measure.now) self.now.cells.now (row_sites (M.price self.now.measure.now) self.now.row self.now.cells.now) }
-        ensures after { sites.new ≡ row_sites (M.price self.now.measure.now) self.now.row self.now.cells.now }
+        ensures answer { result ≡ sites_cost (M.price self.now.measure.now) self.now.cells.now
+            (row_sites (M.price self.now.measure.now) self.now.row self.now.cells.now) }
+        ensures after { sites.new
+            ≡ row_sites (M.price self.now.measure.now) self.now.row self.now.cells.now }
     {
         let mut clusters = Clusters::<N>::new();
         self.put_clusters(&mut clusters);
@@ -69,8 +78,10 @@ impl<'a, M: Measure> Task<'a, M> {
     // Fills `sites` with the sites of the row's cells, and answers what they cost.
     fn fill(&self, sites: &mut [u32]) -> u64
         requires { length sites.old ≡ length self.now.cells.now }
-        ensures answer { result ≡ sites_cost (M.price self.now.measure.now) self.now.cells.now (row_sites (M.price self.now.measure.now) self.now.row self.now.cells.now) }
-        ensures after { sites.new ≡ row_sites (M.price self.now.measure.now) self.now.row self.now.cells.now }
+        ensures answer { result ≡ sites_cost (M.price self.now.measure.now) self.now.cells.now
+            (row_sites (M.price self.now.measure.now) self.now.row self.now.cells.now) }
+        ensures after { sites.new
+            ≡ row_sites (M.price self.now.measure.now) self.now.row self.now.cells.now }
     {
         // The room is cleared when it is made, so that less room is made sooner.
         if self.cells.len() <= FEW_CELLS {
@@ -82,11 +93,15 @@ impl<'a, M: Measure> Task<'a, M> {
         }
     }
 
-    // Sets the row, as `set` does, with no check but that there is a site for each cell.
+    /// Sets the row, as [`set`] does, with no check but that there is a site for each cell: else
+    /// it is refused as `Size` (12), and the sites stay.
     pub fn set(&self, sites: &mut [u32]) -> Result<u64, Refusal>
-        ensures answer { result ≡ set_answer (M.price self.now.measure.now) self.now.row self.now.cells.now sites.old }
-        ensures after { sites.new ≡ set_sites (M.price self.now.measure.now) self.now.row self.now.cells.now sites.old }
-        ensures cheapest { IfOk result (λ cost. Cheapest (M.price self.now.measure.now) self.now.row self.now.cells.now sites.new
+        ensures answer { result
+            ≡ set_answer (M.price self.now.measure.now) self.now.row self.now.cells.now sites.old }
+        ensures after { sites.new
+            ≡ set_sites (M.price self.now.measure.now) self.now.row self.now.cells.now sites.old }
+        ensures cheapest { IfOk result (λ cost.
+            Cheapest (M.price self.now.measure.now) self.now.row self.now.cells.now sites.new
             × (cost ≡ sites_cost (M.price self.now.measure.now) self.now.cells.now sites.new)) }
     {
         if sites.len() != self.cells.len() {
@@ -96,9 +111,15 @@ impl<'a, M: Measure> Task<'a, M> {
     }
 }
 
-// Sets a row: fills `sites` with the sites of its cells, and answers what they cost.
-// Of all legal settings in wanted order it is the cheapest, and of the cheapest the leftmost.
-// The sites are a buffer that the caller lends, beside the cells, so that setting a row takes no memory.
+/// Sets a row: fills `sites` with the sites of its cells, and answers what they cost.
+///
+/// Of all legal settings in wanted order it is the cheapest, and of the cheapest the leftmost. It
+/// is refused by the first check that fails, and the sites stay then: the row outside its ranges
+/// (9); more than 1,024 cells, or not as many sites (12); the first cell that is outside its
+/// ranges (1 to 4), or not after the one before it in wanted order (13); cells that are wider
+/// than the row (14).
+///
+/// The sites are a buffer that the caller lends, beside the cells, so that it takes no memory.
 pub fn set<M: Measure>(
     measure: &M,
     row: Row,
@@ -107,7 +128,8 @@ pub fn set<M: Measure>(
 ) -> Result<u64, Refusal>
     ensures answer { result ≡ set_answer (M.price measure.now) row cells.now sites.old }
     ensures after { sites.new ≡ set_sites (M.price measure.now) row cells.now sites.old }
-    ensures cheapest { IfOk result (λ cost. Cheapest (M.price measure.now) row cells.now sites.new × (cost ≡ sites_cost (M.price measure.now) cells.now sites.new)) }
+    ensures cheapest { IfOk result (λ cost. Cheapest (M.price measure.now) row cells.now sites.new
+        × (cost ≡ sites_cost (M.price measure.now) cells.now sites.new)) }
 {
     check(row, cells, sites.len())?;
     let task = Task {

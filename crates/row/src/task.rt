@@ -9,8 +9,10 @@ ghost use Rattle.row.specs.Stack.{Ready};
 use crate::{Cell, Row};
 use measure::{LAST_PLACE, Measure};
 
-// A row and its cells, which are not refused, and the measure of what their moves cost.
-// Whoever makes one shows that no check of `set` refuses the row and its cells, so that none of them is done again.
+/// A row and its cells, which are not refused, and the measure of what their moves cost.
+///
+/// Whoever makes one shows that no check of `set` refuses the row and its cells, so that none of
+/// them is done again.
 #[derive(Drop)]
 pub struct Task<'a, M: Measure> {
     pub measure: &'a M,
@@ -19,7 +21,8 @@ pub struct Task<'a, M: Measure> {
     ghost ready: { Ready row cells.now } by { Prim.hlevel props },
 }
 
-// Where to look next between two starts: a step before the second, or in the middle where the step is not shorter than what is between them.
+// Where to look next between two starts: a step before the second, or in the middle where the
+// step is not shorter than what is between them.
 fn probe(from: u32, to: u32, step: u32) -> u32
     requires some { from < to }
     requires forward { 1 ≤ step }
@@ -33,8 +36,9 @@ fn probe(from: u32, to: u32, step: u32) -> u32
     }
 }
 
-// How far to step on from a start with the rise `rise`, when the start `distance` sites behind had the rise `above`: as far as the rise
-// stays at least 0 if it goes on to fall so, and twice as far as the last time where it hardly falls.
+// How far to step on from a start with the rise `rise`, when the start `distance` sites behind had
+// the rise `above`: as far as the rise stays at least 0 if it goes on to fall so, and twice as far
+// as the last time where it hardly falls.
 fn next_step(above: i64, rise: i64, distance: u32) -> u32
     requires { 1 ≤ distance }
     ensures { 1 ≤ result }
@@ -76,15 +80,18 @@ impl<'a, M: Measure> Task<'a, M> {
         sum
     }
 
-    // The least start from `low` to `high` that is `high` or where the rise of the cells from `first` to `past` - 1 is at least 0.
-    // It is mostly `high`: so the start before that is looked at first, in place, and a search is a call of its own.
+    // The least start from `low` to `high` that is `high` or where the rise of the cells from
+    // `first` to `past` - 1 is at least 0. It is mostly `high`: so the start before that is looked
+    // at first, in place, and a search is a call of its own.
     #[inline]
     pub(crate) fn best_between(&self, first: usize, past: usize, low: u32, high: u32) -> u32
         requires begins { first ≤ past }
         requires within { past ≤ length self.now.cells.now }
         requires some { low ≤ high }
         requires inside { high + widths (between first past self.now.cells.now) ≤ 65535 }
-        ensures { result ≡ least (climbs (M.price self.now.measure.now) (between first past self.now.cells.now)) low (high - low) }
+        ensures { result ≡ least
+            (climbs (M.price self.now.measure.now) (between first past self.now.cells.now))
+            low (high - low) }
     {
         if low == high {
             return high;
@@ -98,13 +105,14 @@ impl<'a, M: Measure> Task<'a, M> {
         }
     }
 
-    // The same of all cells, where the rise at `high` was `above`, which guides the search and decides nothing. It goes from there in
-    // steps, and by halving where a step would lead too far.
+    // The same of all cells, where the rise at `high` was `above`, which guides the search and
+    // decides nothing. It goes from there in steps, and by halving where a step would lead too far.
     #[inline(never)]
     fn best_before(&self, low: u32, high: u32, above: i64) -> u32
         requires some { low ≤ high }
         requires inside { high + widths self.now.cells.now ≤ 65535 }
-        ensures { result ≡ least (climbs (M.price self.now.measure.now) self.now.cells.now) low (high - low) }
+        ensures { result ≡ least (climbs (M.price self.now.measure.now) self.now.cells.now)
+            low (high - low) }
     {
         let mut from = low;
         let mut to = high;

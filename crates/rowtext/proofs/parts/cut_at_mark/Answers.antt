@@ -1,0 +1,32 @@
+use Rattle.std.proofs.Common.{rules, tests, ◌+◌, length, take, drop, Some, None, sym, ap, ◌∙◌, arith}
+use Rattle.std.specs.List.{position_or_len}
+use Rattle.std.proofs.lemmas.Iterator.{YieldsList-from_slice}
+use Rattle.std.proofs.lemmas.Iterator.Search.{position_from_yields_List}
+use Rattle.std.proofs.lemmas.List.{take_all, take_rest, drop_all}
+use Rattle.rowtext.specs.Text.{among}
+use Rattle.rowtext.proofs.Parted.{at_mark, no_mark}
+use Rattle.rowtext.proofs.parts.cut_at_mark.Goals as goal
+
+pub returns-in-Some : goal.returns-in-Some
+returns-in-Some c =
+    let bytes = c.args.bytes.now in
+    let marks = c.args.marks.now in
+    let mark = c.in-Some.mark in
+    let found = position_from_yields_List (among marks) _ _ (Some mark) c.in-Some.ensures.ran (YieldsList-from_slice bytes cc) (λ x b q k. search (rules, tests)) in
+    let at = at_mark (position_or_len (among marks) bytes) (length bytes) mark (sym found) in
+    record {
+      before = sym (ap (λ n. take n bytes) at.0);
+      after = take_rest bytes (mark + 1) ∙ sym (ap (λ n. drop (n + 1) bytes) at.0);
+    }
+
+pub returns-in-None : goal.returns-in-None
+returns-in-None c =
+    let bytes = c.args.bytes.now in
+    let marks = c.args.marks.now in
+    let length_before = position_or_len (among marks) bytes in
+    let found = position_from_yields_List (among marks) _ _ None c.in-None.ensures.ran (YieldsList-from_slice bytes cc) (λ x b q k. search (rules, tests)) in
+    let past = no_mark length_before (length bytes) (sym found) in
+    record {
+      before = sym (take_all length_before bytes past);
+      after = sym (drop_all (length_before + 1) bytes (omega (arith, past)));
+    }

@@ -1,0 +1,13 @@
+pub mod Fields
+pub mod Forms
+pub mod Lines
+pub mod Messages
+pub mod Numbers
+pub mod Parts
+pub mod Reading
+pub mod Rooms
+pub mod Runs
+pub mod Shown
+pub mod Steps
+pub mod Streams
+pub mod Text

@@ -1,8 +1,0 @@
--- One step after another, until one fails.
---
--- then first next    what next makes of what the first step gave; the first failure stays
-use Rattle.std.specs.Prelude.{Ok, Err, Result}
-
-abbrev pub then : {A B E : Type 0} → Result A E → (A → Result B E) → Result B E
-then (Ok x) next = next x
-then (Err e) next = Err e
