@@ -3,16 +3,15 @@ ghost use Rattle.std.specs.Prelude.{◌≡◌};
 ghost use Rattle.std.specs.Process.{exit_status};
 ghost use Rattle.rowtext.specs.Rooms.{room_of};
 ghost use Rattle.rowtext.specs.Runs.{Answered, Ran, Told, status_of};
-ghost use Rattle.rowtext.specs.Streams.{Ending};
+ghost use Rattle.rowtext.specs.Fetching.{Ending};
 
 use crate::answer::answer;
-use crate::deliver::deliver;
 use crate::fetch::fetch_text;
 use crate::read::read;
 use crate::room::Room;
-use crate::streams::{Sink, Source};
 use crate::trouble::Trouble;
 use std::process::ExitCode;
+use streams::{Sink, Source, deliver};
 
 // Answers the text in the room.
 fn answer_in(room: &mut Room) -> Result<(), Trouble>
@@ -41,7 +40,8 @@ pub fn answer_text<R: Source, W: Sink>(
 {
     fetch_text(input, &mut room.text)?;
     answer_in(room)?;
-    deliver(out, room.said.as_slice())
+    deliver(out, room.said.as_slice())?;
+    Ok(())
 }
 
 /// A whole run of the program `setrow`: the answer to the input on `out`, or one line on `err` that
