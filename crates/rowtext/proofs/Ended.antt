@@ -21,6 +21,7 @@ use Rattle.rowtext.specs.Runs.{Answered, LacksFor, Ran, RunEnds, answer_to, byte
 use Rattle.rowtext.specs.Shown.{said}
 use Rattle.rowtext.specs.Steps.{then}
 use Rattle.rowtext.specs.Fetching.{FetchedText}
+use Rattle.streams.specs.Streams.{Delivered}
 use Rattle.rowtext.specs.Text.{lines}
 
 -- a step that gives a value was preceded by one that did
@@ -124,3 +125,7 @@ undelivered room a b out out_after unread unwritten text bytes n fetch r came wh
       grown = grown;
       ends = subst (RunEnds room (IsAtEnd b) unread unwritten fetched.read (take n bytes)) (sym e) ((fetched.ends.0, fetched.ends.1), halted, (bytes, here, starts_with_take n bytes));
     }
+
+-- a delivery of bytes is one of the bytes that they are
+pub delivered_as : {E : Type 0} (before after : Option (List ℕ)) (failed : Type 0) (bytes same : List ℕ) (r : Result (Unit {0}) E) → Delivered before after failed bytes r → bytes ≡ same → Delivered before after failed same r
+delivered_as before after failed bytes same r delivered is = subst (λ bs. Delivered before after failed bs r) is delivered

@@ -2,8 +2,9 @@
 ghost use Rattle.std.specs.Prelude.{◌≡◌};
 ghost use Rattle.std.specs.Process.{exit_status};
 ghost use Rattle.rowtext.specs.Rooms.{room_of};
-ghost use Rattle.rowtext.specs.Runs.{Answered, Ran, Told, status_of};
+ghost use Rattle.rowtext.specs.Runs.{Answered, Ran, Told, complaint_line, status_of};
 ghost use Rattle.rowtext.specs.Fetching.{Ending};
+ghost use Rattle.streams.specs.Streams.{Delivered};
 
 use crate::answer::answer;
 use crate::fetch::fetch_text;
@@ -11,7 +12,7 @@ use crate::read::read;
 use crate::room::Room;
 use crate::trouble::Trouble;
 use std::process::ExitCode;
-use streams::{Sink, Source, deliver};
+use streams::{NotWritten, Sink, Source, deliver};
 
 // Answers the text in the room.
 fn answer_in(room: &mut Room) -> Result<(), Trouble>
@@ -44,6 +45,17 @@ pub fn answer_text<R: Source, W: Sink>(
     Ok(())
 }
 
+// Says in one line why a text has no answer.
+#[tactic(auto, using(crate::proofs::Ended::delivered_as))]
+fn tell<E: Sink>(err: &mut E, why: Trouble) -> Result<(), NotWritten>
+    ensures { Delivered (E.contents err.old) (E.contents err.new) (E.failed err.new)
+        (complaint_line why) result }
+{
+    let mut line = why.complaint();
+    line.push_str("\n");
+    deliver(err, line.as_bytes())
+}
+
 /// A whole run of the program `setrow`: the answer to the input on `out`, or one line on `err` that
 /// says why there is none, and the status to end with, 0 or 1.
 pub fn set_row<R: Source, W: Sink, E: Sink>(
@@ -61,9 +73,7 @@ pub fn set_row<R: Source, W: Sink, E: Sink>(
     match answer_text(room, input, out) {
         Ok(()) => ExitCode::SUCCESS,
         Err(why) => {
-            let mut line = why.complaint();
-            line.push_str("\n");
-            let _ = deliver(err, line.as_bytes());
+            let _ = tell(err, why);
             ExitCode::FAILURE
         }
     }
