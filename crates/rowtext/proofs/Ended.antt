@@ -1,6 +1,8 @@
 -- How a run ends, from how its steps end.
-use Rattle.std.proofs.Common.{◌≡◌, ℕ, ◌<◌, ◌≤◌, ◌⊎◌, inl, inr, List, [], ◌∷◌, length, Ok, Err, Option, Result, sym, ap, subst, arith}
-use Rattle.std.specs.Io.KnownBytes.{IsAtEnd}
+use Rattle.std.proofs.Common.{◌≡◌, ℕ, ◌<◌, ◌≤◌, ◌⊎◌, inl, inr, List, [], ◌∷◌, length, take, Ok, Err, Option, Result, sym, ap, subst, ◌∙◌, arith, length-take}
+use Rattle.std.proofs.lemmas.List.{take_min}
+use Rattle.std.specs.Io.{StartsWith}
+use Rattle.std.specs.Io.KnownBytes.{Appends, IsAtEnd}
 use Rattle.std.proofs.KnownBytes.{Appends-nil}
 use Rattle.measure.specs.declared.name.MeasureName.{MeasureName}
 use Rattle.row.specs.declared.Cell.{Cell}
@@ -18,7 +20,8 @@ use Rattle.rowtext.specs.Rooms.{Capacity}
 use Rattle.rowtext.specs.Runs.{Answered, LacksFor, Ran, RunEnds, answer_to, bytes_said}
 use Rattle.rowtext.specs.Shown.{said}
 use Rattle.rowtext.specs.Steps.{then}
-use Rattle.rowtext.specs.Streams.{Fetched}
+use Rattle.rowtext.specs.Fetching.{FetchedText}
+use Rattle.streams.specs.Streams.{Delivered}
 use Rattle.rowtext.specs.Text.{lines}
 
 -- a step that gives a value was preceded by one that did
@@ -88,9 +91,9 @@ same_room room after text bytes NoMemory cells sites said answered = elim answer
 
 -- a run ends so whose text was read whole and got no answer
 pub unanswered : (room after : Capacity) (a b out : Option (List ℕ)) (unread unwritten : Type 0) (text bytes : List ℕ) (why : Trouble) (fetch r : Result (Unit {0}) Trouble)
-    → Fetched a b unread room.text text fetch → fetch ≡ Ok tt → Answered after text bytes (Err why) → after.cells ≡ room.cells → after.sites ≡ room.sites → after.said ≡ room.said → r ≡ Err why → Ran room a b out out unread unwritten r
+    → FetchedText a b unread room.text text fetch → fetch ≡ Ok tt → Answered after text bytes (Err why) → after.cells ≡ room.cells → after.sites ≡ room.sites → after.said ≡ room.said → r ≡ Err why → Ran room a b out out unread unwritten r
 unanswered room after a b out unread unwritten text bytes why fetch r came whole_came answered cells sites said e =
-    let fetched : Fetched a b unread room.text text (Ok tt) = subst (Fetched a b unread room.text text) whole_came came in
+    let fetched : FetchedText a b unread room.text text (Ok tt) = subst (FetchedText a b unread room.text text) whole_came came in
     let whole = fetched.ends.0 in
     let short = fetched.ends.1 in
     let here : Answered after fetched.read bytes (Err why) = subst (λ t. Answered after t bytes (Err why)) fetched.ends.2 answered in
@@ -103,3 +106,26 @@ unanswered room after a b out unread unwritten text bytes why fetch r came whole
       grown = Appends-nil out;
       ends = subst (RunEnds room (IsAtEnd b) unread unwritten fetched.read []) (sym e) ends;
     }
+
+-- the first bytes of some are where these start
+starts_with_take : (n : ℕ) (bytes : List ℕ) → StartsWith bytes (take n bytes)
+starts_with_take n bytes = ap (λ k. take k bytes) (length-take n bytes) ∙ take_min n bytes
+
+-- a run ends so whose answer could not be delivered
+pub undelivered : (room : Capacity) (a b out out_after : Option (List ℕ)) (unread unwritten : Type 0) (text bytes : List ℕ) (n : ℕ) (fetch r : Result (Unit {0}) Trouble)
+    → FetchedText a b unread room.text text fetch → fetch ≡ Ok tt → answer_to text ≡ Ok bytes → unwritten → Appends out out_after (take n bytes) → r ≡ Err NotWritten → Ran room a b out out_after unread unwritten r
+undelivered room a b out out_after unread unwritten text bytes n fetch r came whole_came answered halted grown e =
+    let fetched : FetchedText a b unread room.text text (Ok tt) = subst (FetchedText a b unread room.text text) whole_came came in
+    let here : answer_to fetched.read ≡ Ok bytes = subst (λ t. answer_to t ≡ Ok bytes) fetched.ends.2 answered in
+    record {
+      read = fetched.read;
+      consumed = fetched.consumed;
+      little = fetched.little;
+      put = take n bytes;
+      grown = grown;
+      ends = subst (RunEnds room (IsAtEnd b) unread unwritten fetched.read (take n bytes)) (sym e) ((fetched.ends.0, fetched.ends.1), halted, (bytes, here, starts_with_take n bytes));
+    }
+
+-- a delivery of bytes is one of the bytes that they are
+pub delivered_as : {E : Type 0} (before after : Option (List ℕ)) (failed : Type 0) (bytes same : List ℕ) (r : Result (Unit {0}) E) → Delivered before after failed bytes r → bytes ≡ same → Delivered before after failed same r
+delivered_as before after failed bytes same r delivered is = subst (λ bs. Delivered before after failed bs r) is delivered

@@ -1,6 +1,6 @@
-pub mod Copied
 pub mod Digits
 pub mod Ended
+pub mod Fetching
 pub mod Numbered
 pub mod Parted
 pub mod Printed

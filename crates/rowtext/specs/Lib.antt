@@ -1,3 +1,4 @@
+pub mod Fetching
 pub mod Fields
 pub mod Forms
 pub mod Lines
@@ -9,5 +10,4 @@ pub mod Rooms
 pub mod Runs
 pub mod Shown
 pub mod Steps
-pub mod Streams
 pub mod Text

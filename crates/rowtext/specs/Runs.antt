@@ -11,7 +11,9 @@ use Rattle.rowtext.specs.Reading.{lines_in, reads_as}
 use Rattle.rowtext.specs.Rooms.{Capacity}
 use Rattle.rowtext.specs.Shown.{said}
 use Rattle.rowtext.specs.Steps.{then}
-use Rattle.rowtext.specs.Streams.{Delivered, Ending}
+use Rattle.rowtext.specs.Fetching.{Ending}
+use Rattle.streams.specs.Streams.{Delivered}
+use Rattle.streams.specs.declared.sink.NotWritten.{NotWritten as Undelivered}
 
 -- what is said of a text; or which line cannot be read, and why
 abbrev pub answer_to : List ℕ → Result (List ℕ) Unreadable
@@ -80,7 +82,7 @@ complaint_line why = complaint why ++ codes "\n"
 abbrev pub Told : Option (List ℕ) → Option (List ℕ) → Type 0 → Ending → Type 0
 Told before after failed (Ok done) = Keeps before after
 Told before after failed (Err why) =
-    (r : Ending) × Delivered before after failed (complaint_line why) r
+    (r : Result (Unit {0}) Undelivered) × Delivered before after failed (complaint_line why) r
 
 -- the status that a program ends with
 abbrev pub status_of : Ending → ℕ

@@ -2,7 +2,6 @@
 #![tactic(auto)]
 
 mod answer;
-mod deliver;
 mod fetch;
 mod fields;
 mod forms;
@@ -14,14 +13,12 @@ mod read;
 mod report;
 mod room;
 mod run;
-mod streams;
 #[cfg(test)]
 mod tests;
 mod trouble;
 
 pub use room::Room;
 pub use run::{answer_text, set_row};
-pub use streams::{Sink, Source};
 pub use trouble::{Form, Reason, Trouble, Unreadable};
 
 /// How many bytes a text has at most. A row of 1,024 cells with five numbers of ten digits each

@@ -2,17 +2,17 @@
 ghost use Rattle.std.specs.Prelude.{◌≡◌};
 ghost use Rattle.std.specs.Process.{exit_status};
 ghost use Rattle.rowtext.specs.Rooms.{room_of};
-ghost use Rattle.rowtext.specs.Runs.{Answered, Ran, Told, status_of};
-ghost use Rattle.rowtext.specs.Streams.{Ending};
+ghost use Rattle.rowtext.specs.Runs.{Answered, Ran, Told, complaint_line, status_of};
+ghost use Rattle.rowtext.specs.Fetching.{Ending};
+ghost use Rattle.streams.specs.Streams.{Delivered};
 
 use crate::answer::answer;
-use crate::deliver::deliver;
 use crate::fetch::fetch_text;
 use crate::read::read;
 use crate::room::Room;
-use crate::streams::{Sink, Source};
 use crate::trouble::Trouble;
 use std::process::ExitCode;
+use streams::{NotWritten, Sink, Source, deliver};
 
 // Answers the text in the room.
 fn answer_in(room: &mut Room) -> Result<(), Trouble>
@@ -41,7 +41,19 @@ pub fn answer_text<R: Source, W: Sink>(
 {
     fetch_text(input, &mut room.text)?;
     answer_in(room)?;
-    deliver(out, room.said.as_slice())
+    deliver(out, room.said.as_slice())?;
+    Ok(())
+}
+
+// Says in one line why a text has no answer.
+#[tactic(auto, using(crate::proofs::Ended::delivered_as))]
+fn tell<E: Sink>(err: &mut E, why: Trouble) -> Result<(), NotWritten>
+    ensures { Delivered (E.contents err.old) (E.contents err.new) (E.failed err.new)
+        (complaint_line why) result }
+{
+    let mut line = why.complaint();
+    line.push_str("\n");
+    deliver(err, line.as_bytes())
 }
 
 /// A whole run of the program `setrow`: the answer to the input on `out`, or one line on `err` that
@@ -61,9 +73,7 @@ pub fn set_row<R: Source, W: Sink, E: Sink>(
     match answer_text(room, input, out) {
         Ok(()) => ExitCode::SUCCESS,
         Err(why) => {
-            let mut line = why.complaint();
-            line.push_str("\n");
-            let _ = deliver(err, line.as_bytes());
+            let _ = tell(err, why);
             ExitCode::FAILURE
         }
     }

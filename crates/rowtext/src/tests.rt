@@ -1,10 +1,11 @@
 //! Whole runs: texts that are answered, texts that have no answer, and streams that fail.
-use crate::{Room, Source, set_row};
+use crate::{Room, set_row};
 use std::alloc::{AllocError, Global};
 use std::io;
 use std::io::{ErrorKind, Read};
 use std::process::ExitCode;
 use std::test::Fail;
+use streams::Source;
 
 // Two cells that want to overlap.
 const TEXT: &[u8] = b"measure squared\nrow 0 0 10\ncell 1 3 0 4 1\ncell 2 4 0 2 1\n";

@@ -1,8 +1,9 @@
 //! Why a text has no answer.
 ghost use Rattle.std.specs.Prelude.{◌≡◌};
-ghost use Rattle.rowtext.specs.declared.trouble.Trouble.TheVariants.{NoMemory, Unreadable as unreadable};
+ghost use Rattle.rowtext.specs.declared.trouble.Trouble.TheVariants.{NoMemory, NotRead as not_read, NotWritten as not_written, Unreadable as unreadable};
 
 use std::alloc::{AllocError, AllocFailed};
+use streams::{NotRead, NotWritten};
 
 /// What a line is to hold.
 #[derive(Clone, Copy, Debug)]
@@ -63,5 +64,21 @@ impl<T: Drop> From<AllocFailed<T>> for Trouble {
 
     fn from(_refused: AllocFailed<T>) -> Trouble {
         Trouble::NoMemory
+    }
+}
+
+impl From<NotRead> for Trouble {
+    ghost from_gives = { λ _ r. r ≡ not_read };
+
+    fn from(_failed: NotRead) -> Trouble {
+        Trouble::NotRead
+    }
+}
+
+impl From<NotWritten> for Trouble {
+    ghost from_gives = { λ _ r. r ≡ not_written };
+
+    fn from(_failed: NotWritten) -> Trouble {
+        Trouble::NotWritten
     }
 }

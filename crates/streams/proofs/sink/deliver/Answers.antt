@@ -1,6 +1,6 @@
 use Rattle.std.proofs.lemmas.List.{take_rest}
-use Rattle.rowtext.proofs.Copied.{delivered_more}
-use Rattle.rowtext.proofs.deliver.deliver.Goals as goal
+use Rattle.streams.proofs.Copied.{delivered_more}
+use Rattle.streams.proofs.sink.deliver.Goals as goal
 
 pub loop-done-preserved : goal.loop-done-preserved
 loop-done-preserved g c =

@@ -1,7 +1,6 @@
--- What is fetched from where bytes come from, and delivered to where they go.
+-- What is fetched of a text.
 use Rattle.std.specs.Prelude.{◌≡◌, ℕ, ◌+◌, ◌<◌, ◌≤◌, List, length, Option, Ok, Err, Result}
-use Rattle.std.specs.Io.{StartsWith}
-use Rattle.std.specs.Io.KnownBytes.{Appends, Consumes, IsAtEnd}
+use Rattle.std.specs.Io.KnownBytes.{Consumes, IsAtEnd}
 use Rattle.rowtext.specs.declared.TheConstants.{MOST_BYTES, CHUNK_BYTES}
 use Rattle.rowtext.specs.declared.trouble.Trouble.{Trouble}
 use Rattle.rowtext.specs.declared.trouble.Trouble.TheVariants.{Unreadable as unreadable, TooLong, NoMemory, NotRead, NotWritten}
@@ -21,25 +20,9 @@ FetchEnds at_end failed capacity read text (Err NotWritten) = ⊥
 FetchEnds at_end failed capacity read text (Err (unreadable why)) = ⊥
 
 -- a fetch of a text: what it read, no more than it needs, and how it ended
-pub record Fetched (before after : Option (List ℕ)) (failed : Type 0) (capacity : ℕ)
+pub record FetchedText (before after : Option (List ℕ)) (failed : Type 0) (capacity : ℕ)
     (text : List ℕ) (r : Ending) : Type 0 where
   pub read : List ℕ
   pub consumed : Consumes before after read
   pub little : length read ≤ MOST_BYTES + CHUNK_BYTES
   pub ends : FetchEnds (IsAtEnd after) failed capacity read text r
-
--- how a delivery of bytes ended, of which these went out
-abbrev pub DeliveryEnds : Type 0 → List ℕ → List ℕ → Ending → Type 0
-DeliveryEnds failed bytes put (Ok done) = put ≡ bytes
-DeliveryEnds failed bytes put (Err NotWritten) = failed × StartsWith bytes put
-DeliveryEnds failed bytes put (Err NotRead) = ⊥
-DeliveryEnds failed bytes put (Err TooLong) = ⊥
-DeliveryEnds failed bytes put (Err NoMemory) = ⊥
-DeliveryEnds failed bytes put (Err (unreadable why)) = ⊥
-
--- a delivery of bytes: what went out, behind what stood there, and how it ended
-pub record Delivered (before after : Option (List ℕ)) (failed : Type 0) (bytes : List ℕ)
-    (r : Ending) : Type 0 where
-  pub put : List ℕ
-  pub grown : Appends before after put
-  pub ends : DeliveryEnds failed bytes put r

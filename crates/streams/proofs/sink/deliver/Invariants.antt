@@ -1,6 +1,6 @@
 use Rattle.std.proofs.Common.{◌-◌, length}
-use Rattle.rowtext.proofs.Copied.{Delivering}
-use Rattle.rowtext.proofs.deliver.deliver.Given as goal
+use Rattle.streams.proofs.Copied.{Delivering}
+use Rattle.streams.proofs.sink.deliver.Given as goal
 
 abbrev pub invariant-loop-done : goal.invariant-loop-done
 invariant-loop-done g l = Delivering (g.W.Sink.contents l.fn.out) (g.W.Sink.contents l.out) l.bytes l.done
