@@ -39,7 +39,7 @@ cut_lines bytes =
     (λ i. first_line (same.opens i) ++ (record_lines 0 (same.records i) ++ last_line (same.fault i)))
 
 -- what was written of the job that was read is said of all that there was to read
-pub listed : {X E : Type 0} (known : Option (List ℕ)) (read : List ℕ) (from : Option (List ℕ)) (r : Result X E) (to : Option (List ℕ)) → IfSome (option_map (take 65536) known) (λ xs. read ≡ xs) → Writes from r (job_lines read) to → IfSome known (λ job. Writes from r (job_lines job) to)
+pub listed : {X E : Type 0} (known : Option (List ℕ)) (read : List ℕ) (from : Option (List ℕ)) (r : Result X E) (to : Option (List ℕ)) → IfSome known (λ all. read ≡ take 65536 all) → Writes from r (job_lines read) to → IfSome known (λ job. Writes from r (job_lines job) to)
 listed None read from r to is writes = tt
 listed (Some job) read from r to is writes = subst (λ lines. Writes from r lines to) (ap job_lines is ∙ cut_lines job) writes
 
@@ -47,3 +47,8 @@ listed (Some job) read from r to is writes = subst (λ lines. Writes from r line
 pub unwritten : {X E : Type 0} (known : Option (List ℕ)) (from : Option (List ℕ)) (r : Result X E) (e : E) → r ≡ Err e → IfSome known (λ job. Writes from r (job_lines job) from)
 unwritten None from r e is = tt
 unwritten (Some job) from r e is = rw is (record { whole = tt; part = (0, written_none from (job_lines job)) })
+
+-- what was read up to a limit is the front of all that there was to read
+pub read_front : (known : Option (List ℕ)) (limit : ℕ) (read : List ℕ) → IfSome (option_map (take limit) known) (λ xs. read ≡ xs) → IfSome known (λ all. read ≡ take limit all)
+read_front None limit read is = tt
+read_front (Some all) limit read is = is
