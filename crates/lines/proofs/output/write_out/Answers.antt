@@ -1,4 +1,4 @@
-use Rattle.std.proofs.Common.{◌≡◌, ◌-◌, ◌≤◌, length, take, drop, arith, length-drop, take_all}
+use Rattle.std.proofs.Common.{◌≡◌, ◌-◌, length, take, drop, arith, length-drop, take_all}
 use Rattle.lines.proofs.Outputs.{written_more, written_same}
 use Rattle.lines.proofs.output.write_out.Goals as goal
 use Rattle.lines.proofs.output.write_out.Goals.{in-Ok, in-Err+else-ne}
