@@ -1,17 +1,15 @@
 -- One piece, or one line, after another.
-use Rattle.std.proofs.Common.{◌≡◌, ℕ, ◌+◌, ◌<◌, List, [], ◌∷◌, ◌++◌, length, get_or, take, drop, None, Some, Option, IfSome, Ok, Err, Result, Vec, IsErr, refl, sym, ap, subst, ◌∙◌, append_assoc, take-append-drop, rules, arith}
+use Rattle.std.proofs.Common.{◌≡◌, ℕ, ◌+◌, ◌<◌, List, [], ◌++◌, length, get_or, take, drop, None, Some, Option, IfSome, Ok, Err, Result, sym, ap, subst, ◌∙◌, append_assoc, take-append-drop}
 use Rattle.std.proofs.lemmas.List.{flat_map_more, take_more}
 use Rattle.std.proofs.lemmas.List.Concat.{flat_map-append}
 use Rattle.std.specs.List.{flat_map}
 use Rattle.std.specs.Option.{option_map}
-use Rattle.std.specs.declared.alloc.Global.{Global}
 use Rattle.job.proofs.Records.{same_job}
 use Rattle.job.specs.Format.{Content}
 use Rattle.job.specs.Reading.{Standing}
 use Rattle.job.specs.Records.{Takes, fault_left, records_left}
 use Rattle.lines.proofs.Outputs.{written_none}
 use Rattle.lines.proofs.Appended.{appends_none, appends_then, appends_stop}
-use Rattle.lines.specs.Appended.{Appends}
 use Rattle.lines.specs.Written.{Writes}
 use Rattle.listing.specs.Left.{lines_left}
 use Rattle.listing.specs.Lines.{first_line, job_lines, last_line, record_line, record_lines}
