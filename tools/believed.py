@@ -5,8 +5,9 @@
     tools/believed.py CRATE FUNCTION CLAUSE..   of these clauses of a public function
     tools/believed.py -v ..                 names each definition, with its file and its lines
 
-A definition counts with its signature and its equations, and a record with its fields; comments, blank lines and imports do
-not count. The library's words, and the types of the code, are not counted: the library has them, and src/ shows them.
+A definition counts a line for its signature and one for each equation, and a record or a data one for each field or case,
+however they are wrapped; comments, blank lines and imports do not count. The library's words, and the types of the code, are
+not counted: the library has them, and src/ shows them.
 """
 import pathlib
 import re
@@ -159,6 +160,13 @@ def clauses(crate, function, labels):
     return found
 
 
+def size_of(block):
+    """The lines of a definition: its head, and each equation, field or case, without the lines that go on from them."""
+    head = START.match(block[0]).group(1)
+    begins = re.compile(rf"^{head}(\S|  (pub |\w+ :))")
+    return sum(1 for line in block if not line.strip().startswith("--") and begins.match(line) and line.strip() != "}")
+
+
 def count(roots, verbose):
     pairs = set()
     for crate, function, labels in roots:
@@ -166,7 +174,7 @@ def count(roots, verbose):
     done = closure(pairs)
     total = 0
     for (path, _), block in sorted(done.items(), key=lambda item: str(item[0])):
-        size = sum(1 for line in block if line.strip() and not line.strip().startswith("--"))
+        size = size_of(block)
         total += size
         if verbose:
             print(f"{size:4} {path.relative_to(ROOT)}: {START.match(block[0]).group(2)}")

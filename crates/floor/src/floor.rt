@@ -22,7 +22,7 @@ const MOST_ROWS: usize = 64;
 /// Rows and the cells that stand on them. It is legal and in wanted order at all times, and every
 /// row's sites are those that `set` gives its cells.
 ///
-/// It has at most 64 rows and at most 1,024 cells, and lies in itself, without heap: 38 KB.
+/// It has at most 64 rows and 1,024 cells, and holds them itself, without heap: 38 KB.
 #[derive(Drop)]
 pub struct Floor<M: Measure> {
     measure: M,

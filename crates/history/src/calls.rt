@@ -15,9 +15,9 @@ use measure::Measure;
 /// An empty floor with a measure. It has the empty history.
 #[tactic(auto, using(crate::proofs::Lawful::lawful_empty))]
 pub fn begin<M: Measure>(measure: M) -> Floor<M>
-    ensures law { Lawful [] result }
     ensures empty { tables_of result ≡ no_tables }
     ensures same { measure_of result ≡ measure }
+    ensures law { Lawful [] result }
 {
     Floor::new(measure)
 }
@@ -25,8 +25,9 @@ pub fn begin<M: Measure>(measure: M) -> Floor<M>
 /// Makes calls on a floor, from the first on, and fills in their events: as many as there are both
 /// calls and room for events. Events past these stay.
 ///
-/// Whatever history the floor has, it then has that history with these events. Beside this law the
-/// contract gives the very events, and the very rows and seats that the floor holds then.
+/// Whatever history the floor has, it then has that history with these events; where it has the
+/// empty one, it has these events alone. Beside this law the contract gives the very events, and the
+/// very rows and seats that the floor holds then.
 #[tactic(auto, using(crate::proofs::Told::one_more))]
 pub fn make_all<M: Measure>(floor: &mut Floor<M>, calls: &[Call], events: &mut [Event])
     ensures law { let n = min (length calls.now) (length events.old) in

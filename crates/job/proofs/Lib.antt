@@ -1,4 +1,4 @@
 pub mod Advance
 pub mod Moves
 pub mod Names
-pub mod Turns
+pub mod Records

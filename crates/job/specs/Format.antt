@@ -1,22 +1,9 @@
--- The records of a job, over the job's bytes.
---   Named            a name: its bytes, and the place of the first of them
---   Content          what a record says
---   stands           whether a bit stands in a map
---   allows           whether a map has each bit that its form requires and none that its form lacks
---   map_byte         the map at a place
---   field            the number of a bit that stands, or what counts where it does not
---   printable        a byte that a name may have
---   good_bytes       bytes that a name may have, one after another
---   name             the name at a place
---   row_part, cell_part, withdrawal_part   what follows the kind of a row, of a cell to place or try, and of a withdrawal
---   kind_named       the kind that a number names
---   kind_at          the kind at a place
---   after_kind       what follows a record's kind
---   read_record      the record at a place: its kind, its map and its fields
-use Rattle.std.specs.Prelude.{ℕ, zero, suc, ◌/◌, ◌%◌, ◌^◌, Bool, cond, ◌&&◌, List, Some, None, Ok, Err, Option, Result, ◌==◌, nat_le, nat_lt}
+-- The records of a job, over the job's bytes: which parts stand one after another, and what each says.
+use Rattle.std.specs.Prelude.{ℕ, zero, suc, ◌/◌, ◌%◌, ◌^◌, Bool, cond, ◌&&◌, List, Some, None, Ok, Err, Option, Result, ◌==◌, nat_lt}
 use Rattle.std.specs.List.{between}
 use Rattle.row.specs.declared.Cell.{Cell}
 use Rattle.row.specs.declared.Row.{Row}
+use Rattle.job.specs.Names.{printable}
 use Rattle.job.specs.Parts.{Part, taken, flawed, after, made, byte, number}
 use Rattle.job.specs.declared.cursor.map.Form.{Form}
 use Rattle.job.specs.declared.cursor.map.Form.TheVariants as form
@@ -26,14 +13,14 @@ use Rattle.job.specs.declared.record.Cause.{Cause}
 use Rattle.job.specs.declared.record.Cause.TheVariants.{UnknownKind, WrongMap, BadName}
 
 -- a name: its bytes, and the place of the first of them
-pub record Named : Type 0 where
+pub record NameAt : Type 0 where
   pub bytes : List ℕ
   pub place : ℕ
 
 -- a cell, and its name if it has one
 pub record CellNamed : Type 0 where
   pub cell : Cell
-  pub name : Option Named
+  pub name : Option NameAt
 
 -- what a record says
 pub data Content : Type 0 where
@@ -60,25 +47,21 @@ map_byte form job at = after (byte job at) (λ map next. cond (allows form map) 
 abbrev pub field : ℕ → ℕ → ℕ → List ℕ → ℕ → Part ℕ
 field map bit absent job at = cond (stands map bit) (number job at) (taken absent at)
 
--- a byte that a name may have: hexadecimal 21 to 7E
-abbrev pub printable : ℕ → Bool
-printable byte = nat_le 0x21 byte && nat_le byte 0x7E
-
 -- as many bytes of a name from a place on, first to last: the job may end too early, or a byte be bad
 abbrev pub good_bytes : ℕ → List ℕ → ℕ → Part (Unit {0})
 good_bytes zero job at = taken tt at
 good_bytes (suc count) job at = after (byte job at) (λ b next. cond (printable b) (good_bytes count job next) (flawed BadName at))
 
 -- a name of so many bytes from a place on
-abbrev pub text : ℕ → List ℕ → ℕ → Part Named
+abbrev pub text : ℕ → List ℕ → ℕ → Part NameAt
 text size job at = after (good_bytes size job at) (λ _ next. taken (record { bytes = between at next job; place = at }) next)
 
 -- the name at a place: its length, which is not 0, and its bytes
-abbrev pub name : List ℕ → ℕ → Part Named
+abbrev pub name : List ℕ → ℕ → Part NameAt
 name job at = after (byte job at) (λ size next. cond (size == 0) (flawed BadName at) (text size job next))
 
 -- the name, where its bit stands in the map
-abbrev pub name_field : ℕ → ℕ → List ℕ → ℕ → Part (Option Named)
+abbrev pub name_field : ℕ → ℕ → List ℕ → ℕ → Part (Option NameAt)
 name_field map bit job at = cond (stands map bit) (made Some (name job at)) (taken None at)
 
 -- what follows the kind of a row

@@ -1,7 +1,9 @@
 pub mod Causes
 pub mod Format
+pub mod Names
+pub mod Opened
 pub mod Opening
 pub mod Parts
 pub mod Reading
 pub mod Reads
-pub mod Whole
+pub mod Records

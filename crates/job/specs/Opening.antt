@@ -1,14 +1,8 @@
--- What opening a job answers.
---   opening          the measure that a job names, or why the job is refused
---   Opened           an open job: its bytes, and the measure that it names
---   open_answer      the open job, or the fault
---   as_opened        an open job of the program, by its bytes
---   opened           an answer of `open`, with the job so
+-- What opening a job answers: the measure that its first byte names, or the fault.
 use Rattle.std.specs.Prelude.{ℕ, cond, List, length, Ok, Err, Result, ◌==◌, nat_le, slice_index}
 use Rattle.std.specs.Result.{result_map_both}
 use Rattle.measure.specs.declared.name.MeasureName.{MeasureName}
 use Rattle.measure.specs.declared.name.MeasureName.TheVariants.{Squared, Plain}
-use Rattle.job.specs.declared.opening.Job.{Job}
 use Rattle.job.specs.declared.record.Cause.{Cause}
 use Rattle.job.specs.declared.record.Cause.TheVariants.{TooLong, EndsEarly, UnknownMeasure}
 use Rattle.job.specs.declared.record.Fault.{Fault}
@@ -29,11 +23,3 @@ opening job = cond (nat_le (length job) 65535) (cond (length job == 0) (Err Ends
 -- the open job, or a fault that stands at place 0 and counts as the first record's
 abbrev pub open_answer : List ℕ → Result Opened Fault
 open_answer job = result_map_both (λ measure. record { bytes = job; measure = measure }) (λ cause. record { cause = cause; index = 0; place = 0 }) (opening job)
-
--- an open job, by its bytes
-abbrev pub as_opened : Job → Opened
-as_opened job = record { bytes = job.bytes.now; measure = job.measure }
-
--- an answer of `open`, with the job so
-abbrev pub opened : Result Job Fault → Result Opened Fault
-opened r = result_map_both as_opened (λ fault. fault) r

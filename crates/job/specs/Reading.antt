@@ -1,17 +1,9 @@
 -- What a reader answers, and where it stands then.
---   Standing         where a reader stands: its job, the place of the next record, and the index of that record
---   standing         the same of a reader
---   at_start         at the first record of a job
---   next_answer      what reading the next record answers: the record, none at the job's end, or the fault
---   next_standing    where the reader stands after that: after a record, or else where it was
---   Within           a fault whose index and place are at most 65,535
---   InJob            a name is a part of the job, from its place on
---   Advances         a record moves the reader by at least two places and not past the job's end; else the reader stays
 use Rattle.std.specs.Prelude.{◌≡◌, ℕ, ◌+◌, ◌≤◌, cond, List, length, IfSome, Some, None, Ok, Err, Option, Result, nat_lt}
 use Rattle.std.specs.Option as options
 use Rattle.std.specs.Result as results
 use Rattle.std.specs.List.{between}
-use Rattle.job.specs.Format.{Named, Content, read_record}
+use Rattle.job.specs.Format.{NameAt, Content, read_record}
 use Rattle.job.specs.Format.Content.{row, place, withdraw, try}
 use Rattle.job.specs.Parts.{Part}
 use Rattle.job.specs.Reads.{content}
@@ -56,12 +48,8 @@ part_standing s (Err flaw) = s
 abbrev pub next_standing : Standing → Standing
 next_standing s = cond (nat_lt s.place (length s.job)) (part_standing s (read_record s.job s.place)) s
 
--- no index and no place is above a job's greatest length
-abbrev pub Within : Fault → Type 0
-Within fault = (fault.index ≤ 65535) × (fault.place ≤ 65535)
-
 -- a name's bytes are those of the job from its place on
-abbrev pub InJob : List ℕ → Named → Type 0
+abbrev pub InJob : List ℕ → NameAt → Type 0
 InJob job n = n.bytes ≡ between n.place (n.place + length n.bytes) job
 
 -- the same of a record's name, if it has one
@@ -80,7 +68,7 @@ pub record Passed (from : Standing) (c : Content) (to : Standing) : Type 0 where
   pub names : NameInJob from.job c
 
 -- a record moves the reader, and nothing else does; there is none only where the job has ended
-abbrev pub Advances : Standing → Result (Option Content) Fault → Standing → Type 0
+unfoldable pub Advances : Standing → Result (Option Content) Fault → Standing → Type 0
 Advances from (Ok (Some c)) to = Passed from c to
 Advances from (Ok None) to = (to ≡ from) × (length from.job ≤ from.place)
 Advances from (Err fault) to = to ≡ from

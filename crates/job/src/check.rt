@@ -1,5 +1,5 @@
 // What a job's length and its first byte say.
-ghost use Rattle.std.specs.Prelude.{◌≡◌, ◌≤◌, IfOk, length};
+ghost use Rattle.std.specs.Prelude.{◌≡◌};
 ghost use Rattle.job.specs.Opening.{opening};
 
 use crate::record::Cause;
@@ -8,7 +8,6 @@ use measure::MeasureName;
 // The measure that a job names, or why the job is refused.
 pub(crate) fn check(bytes: &[u8]) -> Result<MeasureName, Cause>
     ensures answer { result ≡ opening bytes.now }
-    ensures small { IfOk result (λ _. length bytes.now ≤ 65535) }
 {
     if bytes.len() > 65_535 {
         return Err(Cause::TooLong);

@@ -1,4 +1,4 @@
-// The reader of jobs: a job's bytes, record by record.
+//! The reader of jobs in the binary format of docs/FORMAT.md: a job's bytes, record by record.
 #![tactic(auto)]
 
 mod check;
@@ -12,7 +12,7 @@ mod record;
 mod whole;
 
 pub use measure::MeasureName;
-pub use named::Name;
+pub use named::{LONGEST_NAME, Name, Named};
 pub use opening::Job;
 pub use reader::Reader;
 pub use record::{Cause, Fault, Record};

@@ -54,7 +54,7 @@ fn put_table(heap: Global, out: &mut Vec<u8>, table: &str) -> Result<(), AllocEr
         put_line(out, title.as_str())?;
         let mut bytes = Vec::new(heap);
         put_words(&mut bytes, line)?;
-        put_job(heap, out, bytes.as_slice())?;
+        put_job(out, bytes.as_slice())?;
     }
     Ok(())
 }

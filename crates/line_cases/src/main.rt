@@ -1,15 +1,38 @@
-// Writes each kind of line into one buffer, at the least and the largest numbers, and prints it.
+//! Writes each kind of line into one buffer, at the least and the largest numbers, and prints it.
 #![tactic(auto)]
 
-use lines::{LEAST_BUFFER, LONGEST_NAME, Line};
+use job::{LONGEST_NAME, Name};
+use lines::{LEAST_BUFFER, Line};
 use std::io;
 use std::io::Write;
+
+// The numbers of the lines that are shown: of 16 bits an index and a place, and of more a number, a
+// line, a site and a cost.
+#[derive(Clone, Copy)]
+struct Numbers {
+    index: u16,
+    place: u16,
+    number: u32,
+    line: u32,
+    site: u32,
+    cost: u64,
+}
+
+// The largest numbers.
+const LARGEST: Numbers = Numbers {
+    index: u16::MAX,
+    place: u16::MAX,
+    number: u32::MAX,
+    line: u32::MAX,
+    site: u32::MAX,
+    cost: u64::MAX,
+};
 
 // Writes a line and prints it, or prints the number of the refusal.
 fn show(rt: &HostRuntime, buffer: &mut [u8], line: Line) -> io::Result<()> {
     match line.write(buffer) {
         Ok(end) => rt.stdout().write_all(&buffer[..end]),
-        Err(refusal) => println!(rt; "refused {}", refusal.number()),
+        Err(refusal) => println!(rt; "refused {}: {refusal}", refusal.number()),
     }
 }
 
@@ -17,35 +40,37 @@ fn show(rt: &HostRuntime, buffer: &mut [u8], line: Line) -> io::Result<()> {
 fn show_kinds(
     rt: &HostRuntime,
     buffer: &mut [u8],
-    numbers: [u32; 3],
-    cost: u64,
-    name: Option<&[u8]>,
+    numbers: Numbers,
+    name: Option<Name<'_>>,
 ) -> io::Result<()> {
-    let [first, second, third] = numbers;
+    let Numbers {
+        index,
+        place,
+        number,
+        line,
+        site,
+        cost,
+    } = numbers;
     let lines = [
-        Line::Granted { index: first, name },
+        Line::Granted { index, name },
         Line::Seated {
-            index: first,
-            line: second,
-            site: third,
+            index,
+            line,
+            site,
             rise: cost,
             name,
         },
         Line::Refused {
-            index: first,
-            number: second,
+            index,
+            number,
             name,
         },
         Line::Unreadable {
-            index: first,
-            number: second,
-            place: third,
+            index,
+            number,
+            place,
         },
-        Line::Cell {
-            number: first,
-            line: second,
-            site: third,
-        },
+        Line::Cell { number, line, site },
         Line::Cost { cost },
     ];
     for line in lines {
@@ -54,21 +79,27 @@ fn show_kinds(
     Ok(())
 }
 
-// Shows each kind of line at the largest numbers.
-fn show_largest(rt: &HostRuntime, buffer: &mut [u8], name: Option<&[u8]>) -> io::Result<()> {
-    let numbers = [u32::MAX, u32::MAX - 1, u32::MAX - 2];
-    show_kinds(rt, buffer, numbers, u64::MAX, name)
+// Numbers that differ, from a first one on.
+fn numbers_from(first: u16) -> Numbers {
+    let [index, place, number] = [first, first / 2, first / 3];
+    Numbers {
+        index,
+        place,
+        number: number.into(),
+        line: u32::from(first) * 10,
+        site: u32::from(first) * 100,
+        cost: u64::from(first) * 1000,
+    }
 }
 
 fn main(rt: HostRuntime) -> io::Result<()> {
     let mut buffer = [b'x'; LEAST_BUFFER];
     let longest: &[u8] = &[b'~'; LONGEST_NAME];
     let too_long: &[u8] = &[b'~'; LONGEST_NAME + 1];
-    show_kinds(&rt, &mut buffer, [0, 0, 0], 0, None)?;
-    show_kinds(&rt, &mut buffer, [9, 10, 11], 99, Some(b"!"))?;
-    show_kinds(&rt, &mut buffer, [100, 999, 1_000], 65_535, Some(b"!"))?;
-    show_largest(&rt, &mut buffer, None)?;
-    show_largest(&rt, &mut buffer, Some(longest))?;
-    show_largest(&rt, &mut buffer, Some(too_long))?;
-    show_kinds(&rt, &mut buffer[1..], [1, 2, 3], 4, None)
+    show_kinds(&rt, &mut buffer, numbers_from(0), None)?;
+    show_kinds(&rt, &mut buffer, numbers_from(9), Name::new(b"!"))?;
+    show_kinds(&rt, &mut buffer, numbers_from(1_000), Name::new(b"a name"))?;
+    show_kinds(&rt, &mut buffer, LARGEST, Name::new(longest))?;
+    show_kinds(&rt, &mut buffer, LARGEST, Name::new(too_long))?;
+    show_kinds(&rt, &mut buffer[1..], numbers_from(1), None)
 }

@@ -1,2 +1,4 @@
+pub mod Appended
 pub mod Fronts
 pub mod Lengths
+pub mod Outputs

@@ -1,7 +1,4 @@
 -- Bytes put into the front of a lent buffer.
---   so_far front              the bytes put so far
---   HasRoom front bytes       bytes fit behind those put so far
---   Puts before bytes after   bytes are put behind those before, and the buffer past them stays
 use Rattle.std.specs.Prelude.{◌≡◌, ℕ, ◌+◌, ◌≤◌, List, ◌++◌, length, take, drop}
 use Rattle.lines.specs.declared.front.Front.{Front}
 

@@ -2,3 +2,4 @@ pub mod Appended
 pub mod Fronts
 pub mod Texts
 pub mod Writes
+pub mod Written

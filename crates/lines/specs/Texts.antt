@@ -1,14 +1,8 @@
--- The text of each line.
---   text line       its bytes: a word and decimal numbers with spaces between them, the name if there is one, and a newline
---   granted_text, seated_text, refused_text, unreadable_text, cell_text, cost_text    the text of each kind of line
---   name_held line  the name that it borrows, if it has one
---   name_of line    the bytes of its name; none where it has no name
---   spaced number   a space and the number in decimal
---   spot line site  a line and a site, each after a space
---   ending name     what ends a line that may have a name
-use Rattle.std.specs.Prelude.{ℕ, List, [], ◌++◌, Some, None, codes, decimal, Option}
-use Rattle.std.specs.Borrow.{Bor}
+-- The text of each line: a word and decimal numbers with spaces between them, the name if there is one, and a newline.
+use Rattle.std.specs.Prelude.{ℕ, List, ◌++◌, Some, None, codes, decimal, Option}
 use Rattle.std.specs.Option.{option_map}
+use Rattle.job.specs.Reads.{name_bytes}
+use Rattle.job.specs.declared.named.Name.{Name}
 use Rattle.lines.specs.declared.Line.{Line}
 use Rattle.lines.specs.declared.Line.TheVariants.{Granted, Seated, Refused, Unreadable, Cell, Cost}
 
@@ -24,21 +18,17 @@ spaced number = codes " " ++ decimal number
 abbrev pub spot : ℕ → ℕ → List ℕ
 spot line site = spaced line ++ spaced site
 
--- the bytes that a name borrows, if there is a name
-abbrev pub name_bytes : Option (Bor (List ℕ)) → List ℕ
-name_bytes None = []
-name_bytes (Some name) = name.now
-
 -- the bytes of a name, if there is one
-abbrev pub named : Option (Bor (List ℕ)) → Option (List ℕ)
-named name = option_map (λ bytes. bytes.now) name
+abbrev pub named : Option Name → Option (List ℕ)
+named name = option_map name_bytes name
 
 -- a space and the name, where there is one, and a newline
 abbrev pub ending_text : Option (List ℕ) → List ℕ
 ending_text None = newline
 ending_text (Some name) = codes " " ++ name ++ newline
 
-abbrev pub ending : Option (Bor (List ℕ)) → List ℕ
+-- what ends a line with a name or none
+abbrev pub ending : Option Name → List ℕ
 ending name = ending_text (named name)
 
 -- a record is granted: `K ok`, or `K ok NAME`
@@ -73,16 +63,3 @@ text (Refused index number name) = refused_text index number (named name)
 text (Unreadable index number place) = unreadable_text index number place
 text (Cell number line site) = cell_text number line site
 text (Cost cost) = cost_text cost
-
--- the name that a line borrows, if it has one
-abbrev pub name_held : Line → Option (Bor (List ℕ))
-name_held (Granted index name) = name
-name_held (Seated index line site rise name) = name
-name_held (Refused index number name) = name
-name_held (Unreadable index number place) = None
-name_held (Cell number line site) = None
-name_held (Cost cost) = None
-
--- the name's bytes
-abbrev pub name_of : Line → List ℕ
-name_of line = name_bytes (name_held line)

@@ -5,8 +5,10 @@ ghost use Rattle.lines.specs.Fronts.{HasRoom, Puts};
 ghost use Rattle.lines.specs.Texts.{ending, spot};
 
 use itoa::{Buffer, Integer};
+use job::Name;
 
-// A lent buffer, and where the bytes put into it end. No `ArrayVec<u8, 320>`: the caller lends the buffer, and the line is written where it is wanted.
+// A lent buffer, and where the bytes put into it end. No `ArrayVec<u8, 320>`: the caller lends the
+// buffer, and the line is written where it is wanted.
 #[derive(Drop)]
 pub(crate) struct Front<'a> {
     pub(crate) buffer: &'a mut [u8],
@@ -43,7 +45,8 @@ impl Front<'_> {
     }
 
     // Puts the index of a record, and what came of it in a word.
-    pub(crate) fn put_head(&mut self, index: u32, word: &[u8])
+    #[tactic(auto, using(crate::proofs::Fronts::puts_then))]
+    pub(crate) fn put_head(&mut self, index: u16, word: &[u8])
         requires room { HasRoom self.old (decimal index ++ word.now) }
         ensures { Puts self.old (decimal index ++ word.now) self.new }
     {
@@ -61,13 +64,13 @@ impl Front<'_> {
     }
 
     // Puts the name, if there is one, and ends the line.
-    pub(crate) fn put_ending(&mut self, name: Option<&[u8]>)
+    pub(crate) fn put_ending(&mut self, name: Option<Name<'_>>)
         requires room { HasRoom self.old (ending name) }
         ensures { Puts self.old (ending name.entry) self.new }
     {
         if let Some(name) = name {
             self.put(b" ");
-            self.put(name);
+            self.put(name.bytes());
         }
         self.put(b"\n");
     }

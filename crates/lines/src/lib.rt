@@ -1,90 +1,74 @@
-// Result lines: the text of each, and the call that writes one into a lent buffer.
+//! Result lines: the text of each, and the call that writes one into a lent buffer.
 #![tactic(auto)]
 
-ghost use Rattle.std.specs.Prelude.{◌≡◌, ◌+◌, ◌≤◌, length, IfOk};
+ghost use Rattle.std.specs.Prelude.{◌≡◌, ◌≤◌, length, IfOk};
+ghost use Rattle.lines.specs.Appended.{Appends};
 ghost use Rattle.lines.specs.Fronts.{HasRoom, Puts};
-ghost use Rattle.lines.specs.Texts.{text, name_held, name_of};
-ghost use Rattle.lines.specs.Writes.{number_of, write_answer, write_buffer};
+ghost use Rattle.lines.specs.Texts.{text};
+ghost use Rattle.lines.specs.Writes.{write_answer, write_buffer};
+ghost use Rattle.lines.specs.declared.TheConstants.{LEAST_BUFFER};
 
+mod appending;
 mod front;
+mod output;
+mod short_buffer;
 
+pub use appending::append;
 use front::Front;
+use job::Name;
+pub use output::write_out;
+pub use short_buffer::ShortBuffer;
+use std::alloc::AllocError;
 
-// The least length of a line buffer.
+/// The least length of a line buffer, in bytes: no line is longer.
 pub const LEAST_BUFFER: usize = 320;
 
-// The greatest length of a name.
-pub const LONGEST_NAME: usize = 255;
-
-// A line. The answer to a record begins with the record's index.
-// A refusal, of a record or of its reading, is its number here, since several crates refuse and this one knows none of them.
+/// A line of text that answers a job. That of a record begins with the record's index, counted from
+/// 0, and ends with the cell's name, where there is one.
+// A refusal, of a record or of its reading, is its number here, since several crates refuse and this
+// one knows none of them.
 #[derive(Clone, Copy)]
 pub enum Line<'a> {
-    // `K ok`, or `K ok NAME`: a record is granted.
+    /// `K ok`, or `K ok NAME`: a record is granted.
     Granted {
-        index: u32,
-        name: Option<&'a [u8]>,
+        index: u16,
+        name: Option<Name<'a>>,
     },
-    // `K ok LINE SITE RISE`, or `K ok LINE SITE RISE NAME`: a cell is seated.
+    /// `K ok LINE SITE RISE`, or `K ok LINE SITE RISE NAME`: a cell is seated.
     Seated {
-        index: u32,
+        index: u16,
         line: u32,
         site: u32,
         rise: u64,
-        name: Option<&'a [u8]>,
+        name: Option<Name<'a>>,
     },
-    // `K no N`, or `K no N NAME`: a record is refused.
+    /// `K no N`, or `K no N NAME`: a record is refused.
     Refused {
-        index: u32,
+        index: u16,
         number: u32,
-        name: Option<&'a [u8]>,
+        name: Option<Name<'a>>,
     },
-    // `K bad N P`: a record cannot be read, because of the byte at place P.
+    /// `K bad N P`: a record cannot be read, because of the byte at place P.
     Unreadable {
-        index: u32,
+        index: u16,
         number: u32,
-        place: u32,
+        place: u16,
     },
-    // `NUMBER LINE SITE`: where a cell stands.
+    /// `NUMBER LINE SITE`: where a cell stands.
     Cell {
         number: u32,
         line: u32,
         site: u32,
     },
-    // `cost C`: what all standing cells cost.
+    /// `cost C`: what all standing cells cost.
     Cost {
         cost: u64,
     },
 }
 
-// Why no line is written: the buffer is too short for the longest line, or the name is longer than in any.
-#[derive(Clone, Copy, PartialEq, Eq, Debug)]
-pub struct ShortBuffer;
-
-impl ShortBuffer {
-    // The number of the refusal.
-    pub fn number(self) -> u32
-        ensures { result ≡ number_of self }
-    {
-        20
-    }
-}
-
 impl<'a> Line<'a> {
-    // The line's name, where it has one; all else takes at most 58 bytes.
-    #[tactic(auto, using(crate::proofs::Lengths::text_length))]
-    fn name(self) -> Option<&'a [u8]>
-        ensures value { result ≡ name_held self.entry }
-        ensures others { length (text self.entry) ≤ 58 + length (name_of self.entry) }
-    {
-        match self {
-            Line::Granted { name, .. } | Line::Seated { name, .. } | Line::Refused { name, .. } =>
-                name,
-            Line::Unreadable { .. } | Line::Cell { .. } | Line::Cost { .. } => None,
-        }
-    }
-
-    // Puts the line's text behind what the front holds. One arm for each kind, its parts in the order of its text; the patterns take a line for each field.
+    // Puts the line's text behind what the front holds. One arm for each kind, its parts in the order
+    // of its text; the patterns take a line for each field.
     fn put(self, front: &mut Front)
         requires room { HasRoom front.old (text self) }
         ensures { Puts front.old (text self.entry) front.new }
@@ -138,21 +122,29 @@ impl<'a> Line<'a> {
         }
     }
 
-    // Writes the line at the front of a buffer, and answers its length; the buffer past it stays.
-    // Refuses a buffer of fewer than 320 bytes or a name of more than 255, and then the whole buffer stays.
-    // No line is longer than 320 bytes.
+    /// Writes the line at the front of a buffer, and answers its length, at most 320; the buffer past
+    /// it stays. Refuses a buffer of fewer than 320 bytes (20), and then the whole buffer stays.
+    #[tactic(auto, using(crate::proofs::Lengths::text_length))]
     pub fn write(self, buffer: &mut [u8]) -> Result<usize, ShortBuffer>
-        ensures answer { result ≡ write_answer self.entry buffer.old }
-        ensures after { buffer.new ≡ write_buffer self.entry buffer.old }
-        ensures fits { IfOk result (λ end. end ≤ 320) }
-        ensures short { length (name_of self.entry) ≤ 255 → length (text self.entry) ≤ 320 }
+        ensures answer { result ≡ write_answer (text self.entry) buffer.old }
+        ensures after { buffer.new ≡ write_buffer (text self.entry) buffer.old }
+        ensures fits { IfOk result (λ end. end ≤ LEAST_BUFFER) }
+        ensures short { length (text self.entry) ≤ LEAST_BUFFER }
     {
-        let too_long = self.name().is_some_and(|name| name.len() > LONGEST_NAME);
-        if buffer.len() < LEAST_BUFFER || too_long {
+        if buffer.len() < LEAST_BUFFER {
             return Err(ShortBuffer);
         }
         let mut front = Front { buffer, end: 0 };
         self.put(&mut front);
         Ok(front.end)
+    }
+
+    /// Adds the line at the end of a growing buffer. It fails only for want of memory.
+    pub fn append_to(self, out: &mut Vec<u8>) -> Result<(), AllocError>
+        ensures { Appends out.old result (text self.entry) out.new }
+    {
+        let mut buffer = [0; LEAST_BUFFER];
+        let length = self.write(&mut buffer).unwrap();
+        append(out, &buffer[..length])
     }
 }

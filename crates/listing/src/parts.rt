@@ -1,100 +1,106 @@
 // The lines of a listing, added to a buffer.
-ghost use Rattle.std.specs.Prelude.{◌++◌, IfSome};
-ghost use Rattle.std.specs.Option.{option_map};
-ghost use Rattle.job.specs.Reads.{named, cell_named, content};
+ghost use Rattle.std.specs.Prelude.{◌≡◌, ◌++◌};
+ghost use Rattle.job.specs.Reads.{cell_named, content};
 ghost use Rattle.lines.specs.Appended.{Appends};
-ghost use Rattle.listing.specs.Lines.{end_of_line, measure_line, name_text, cell_text, cell_line, record_line, fault_line};
+ghost use Rattle.listing.specs.Lines.{end_of_line, measure_line, cell_line, record_line, fault_line};
 
-use job::{Fault, MeasureName, Name, Record};
+use crate::pieces::Piece::{Bytes, Name, Number};
+use crate::pieces::put_pieces;
+use job::{Fault, MeasureName, Named, Record};
+use lines::append;
 use row::{Cell, Row, Spot};
 use std::alloc::AllocError;
-use std::fmt::Display;
 
-// Adds a text and ends the line.
+/// Adds a text and ends the line. It fails only for want of memory.
 pub fn put_line(out: &mut Vec<u8>, text: &str) -> Result<(), AllocError>
     ensures { Appends out.old result (text.now ++ end_of_line) out.new }
 {
-    out.extend_from_slice(text.as_bytes())?;
-    out.push(b'\n')?;
-    Ok(())
-}
-
-// Adds what a value prints. By a text of its own: `write!` straight into the buffer answers an `io::Error`, of which an `AllocError` could only be made by hand.
-fn put<D: Display + Drop>(out: &mut Vec<u8>, shown: D) -> Result<(), AllocError>
-    ensures { IfSome (D.output shown) (λ text. Appends out.old result text out.new) }
-{
-    let text = shown.to_string(*out.allocator())?;
-    out.extend_from_slice(text.as_bytes())
+    put_pieces(out, &[Bytes(text.as_bytes()), Bytes(b"\n")])
 }
 
 // Adds the line of a job's measure.
 pub(crate) fn put_measure(out: &mut Vec<u8>, measure: MeasureName) -> Result<(), AllocError>
     ensures { Appends out.old result (measure_line measure) out.new }
 {
-    put(out, format_args!("measure {measure}\n"))
-}
-
-// Adds the name of a cell, if it has one.
-fn put_name(out: &mut Vec<u8>, name: Option<Name<'_>>) -> Result<(), AllocError>
-    ensures { Appends out.old result (name_text (option_map named name.entry)) out.new }
-{
-    if let Some(name) = name {
-        out.extend_from_slice(b" name ")?;
-        out.extend_from_slice(name.text)?;
+    match measure {
+        MeasureName::Squared => append(out, b"measure squared\n"),
+        MeasureName::Plain => append(out, b"measure plain\n"),
     }
-    Ok(())
 }
 
-// Adds a cell but for its name; the word says whether it is placed or tried.
-fn put_fields(out: &mut Vec<u8>, index: usize, word: &str, cell: Cell) -> Result<(), AllocError>
-    ensures { Appends out.old result (cell_text index word.now cell) out.new }
+// Adds the line of a row.
+fn put_row(out: &mut Vec<u8>, index: u16, row: Row) -> Result<(), AllocError>
+    ensures { Appends out.old result (record_line index (content (Record.Row row))) out.new }
 {
-    let Cell {
-        number,
-        wanted,
-        width,
-        weight,
-    } = cell;
-    let Spot { line, site } = wanted;
-    put(
+    let Row { line, left, right } = row;
+    put_pieces(
         out,
-        format_args!(
-            "{index} {word} {number} site {site} line {line} width {width} weight {weight}"
-        ),
+        &[
+            Number(index.into()),
+            Bytes(b" row line "),
+            Number(line),
+            Bytes(b" left "),
+            Number(left),
+            Bytes(b" right "),
+            Number(right),
+            Bytes(b"\n"),
+        ],
     )
 }
 
-// Adds the line of a cell; the word says whether it is placed or tried.
-fn put_cell(
+// Adds the line of a cell; the word, between spaces, says whether it is placed or tried.
+fn put_cell<'a>(
     out: &mut Vec<u8>,
-    index: usize,
-    word: &str,
+    index: u16,
+    word: &'a [u8],
     cell: Cell,
-    name: Option<Name<'_>>,
+    name: Option<Named<'a>>,
 ) -> Result<(), AllocError>
     ensures { Appends out.old result (cell_line index word.now (cell_named (cell, name.entry))) out.new }
 {
-    put_fields(out, index, word, cell)?;
-    put_name(out, name)?;
-    put_line(out, "")
+    let Cell {
+        number,
+        wanted: Spot { line, site },
+        width,
+        weight,
+    } = cell;
+    put_pieces(
+        out,
+        &[
+            Number(index.into()),
+            Bytes(word),
+            Number(number),
+            Bytes(b" site "),
+            Number(site),
+            Bytes(b" line "),
+            Number(line),
+            Bytes(b" width "),
+            Number(width),
+            Bytes(b" weight "),
+            Number(weight),
+            Name(name),
+            Bytes(b"\n"),
+        ],
+    )
 }
 
-// Adds the line of a record.
-pub(crate) fn put_record(
-    out: &mut Vec<u8>,
-    index: usize,
-    found: Record<'_>,
-) -> Result<(), AllocError>
+// Adds the line of a record with an index.
+pub(crate) fn put_record(out: &mut Vec<u8>, index: u16, found: Record<'_>) -> Result<(), AllocError>
     ensures { Appends out.old result (record_line index (content found.entry)) out.new }
 {
     match found {
-        Record::Row(Row { line, left, right }) => put(
+        Record::Row(row) => put_row(out, index, row),
+        Record::Place(cell, name) => put_cell(out, index, b" place ", cell, name),
+        Record::Withdraw(number) => put_pieces(
             out,
-            format_args!("{index} row line {line} left {left} right {right}\n"),
+            &[
+                Number(index.into()),
+                Bytes(b" withdraw "),
+                Number(number),
+                Bytes(b"\n"),
+            ],
         ),
-        Record::Place(cell, name) => put_cell(out, index, "place", cell, name),
-        Record::Withdraw(number) => put(out, format_args!("{index} withdraw {number}\n")),
-        Record::Try(cell, name) => put_cell(out, index, "try", cell, name),
+        Record::Try(cell, name) => put_cell(out, index, b" try ", cell, name),
     }
 }
 
@@ -102,5 +108,22 @@ pub(crate) fn put_record(
 pub(crate) fn put_fault(out: &mut Vec<u8>, fault: Fault) -> Result<(), AllocError>
     ensures { Appends out.old result (fault_line fault) out.new }
 {
-    put(out, format_args!("{fault}\n"))
+    let Fault {
+        cause,
+        index,
+        place,
+    } = fault;
+    put_pieces(
+        out,
+        &[
+            Number(index.into()),
+            Bytes(b" bad byte "),
+            Number(place.into()),
+            Bytes(b": refusal "),
+            Number(cause.number()),
+            Bytes(b", "),
+            Bytes(cause.reason().as_bytes()),
+            Bytes(b"\n"),
+        ],
+    )
 }

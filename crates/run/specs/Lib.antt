@@ -1,7 +1,11 @@
+pub mod Complaints
 pub mod Faults
+pub mod Legalized
 pub mod Parts
+pub mod Started
 pub mod State
 pub mod Steps
 pub mod Texts
 pub mod Turns
 pub mod Jobs
+pub mod Streams

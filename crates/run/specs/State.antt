@@ -1,29 +1,53 @@
--- What a run holds.
---   State      where its reader stands, its floor's rows and seats, and whether the job counts as ended
---   state      the same of a run
---   measure_in the measure of a run's floor
---   started    a run that has read nothing of a job, on a floor with these rows and seats
-use Rattle.std.specs.Prelude.{ℕ, Bool, false, List}
-use Rattle.floor.specs.State.{rows_of, seats_of, measure_of}
-use Rattle.floor.specs.declared.Seat.{Seat}
-use Rattle.job.specs.Reading.{Standing, standing, at_start}
-use Rattle.row.specs.declared.Row.{Row}
+-- What a run holds: which records of its job are left, and the tables of its floor.
+use Rattle.std.specs.Prelude.{ℕ, List, [], Some, None, Option}
+use Rattle.measure.specs.Costs.{Price}
+use Rattle.measure.specs.declared.Measure.{Ghosts}
+use Rattle.floor.specs.State.{measure_of, price_of, tables_of}
+use Rattle.floor.specs.Tables.{Tables}
+use Rattle.floor.specs.declared.floor.Floor.{Floor}
+use Rattle.job.specs.Format.{Content}
+use Rattle.job.specs.Reading.{standing}
+use Rattle.job.specs.Records.{records_left, fault_left}
+use Rattle.job.specs.declared.record.Fault.{Fault}
 use Rattle.run.specs.declared.run.Run.{Run}
 
--- where the reader stands, the floor's rows and seats, and whether the job counts as ended because a record could not be read
+-- the index of the next record, the records that are left, the fault that ends them and is not told
+-- yet, the fault that is told, and the floor's tables
 pub record State : Type 0 where
-  pub reader : Standing
-  pub rows : List Row
-  pub seats : List Seat
-  pub ended : Bool
+  pub index : ℕ
+  pub records : List Content
+  pub fault : Option Fault
+  pub told : Option Fault
+  pub tables : Tables
 
-abbrev pub state : {M : Type 0} → Run M → State
-state run = record { reader = standing run.reader; rows = rows_of run.floor; seats = seats_of run.floor; ended = run.ended }
+-- what is left, unless a fault has ended the job
+abbrev pub records_ahead : Option Fault → List Content → List Content
+records_ahead None records = records
+records_ahead (Some told) records = []
 
--- the measure of a run's floor
-abbrev pub measure_in : {M : Type 0} → Run M → M
-measure_in run = measure_of run.floor
+abbrev pub fault_ahead : Option Fault → Option Fault → Option Fault
+fault_ahead None fault = fault
+fault_ahead (Some told) fault = None
 
--- at the first record of a job
-abbrev pub started : List ℕ → List Row → List Seat → State
-started job rows seats = record { reader = at_start job; rows = rows; seats = seats; ended = false }
+module _ {M : Type 0} {m : Ghosts M} where
+  -- what a run holds
+  abbrev pub state : Run M m → State
+  state run = record {
+    index = (standing run.reader).index;
+    records = records_ahead run.fault (records_left (standing run.reader));
+    fault = fault_ahead run.fault (fault_left (standing run.reader));
+    told = run.fault;
+    tables = tables_of run.floor;
+  }
+
+  -- its floor
+  abbrev pub floor_of : Run M m → Floor M m
+  floor_of run = run.floor
+
+  -- the measure of its floor
+  abbrev pub measure_in : Run M m → M
+  measure_in run = measure_of run.floor
+
+  -- what a move costs by it
+  abbrev pub price_in : Run M m → Price
+  price_in run = price_of run.floor

@@ -1,59 +1,59 @@
--- What a whole job says.
---   cell_texts          the lines of seats, one after another
---   steps_text          the lines of the steps from a state on, of at most so many
---   run_end             the state at the end of these steps
---   end_text            what is said at a job's end: the lines of the cells that stand, and what they cost
---   run_text            the lines from a state on: of the steps, and of the end
---   job_text            what a job says: its steps and its end, or the fault that it is refused with
-use Rattle.std.specs.Prelude.{ℕ, zero, suc, ◌+◌, List, [], ◌++◌, length, Some, None, Ok, Err, Option, Result}
+-- What a whole job says: a line for each record, the line of the fault that ends it, and the lines
+-- of what stands then.
+use Rattle.std.specs.Prelude.{ℕ, ◌+◌, List, [], ◌∷◌, ◌++◌, map, Some, None, Ok, Err, Option, Result}
 use Rattle.std.specs.List.{flat_map}
-use Rattle.measure.specs.Costs.{Price}
+use Rattle.floor.specs.Tables.{Tables, no_tables}
 use Rattle.floor.specs.declared.Seat.{Seat}
-use Rattle.job.specs.Opening.{Opened, open_answer}
-use Rattle.job.specs.declared.record.Fault as unread
+use Rattle.history.specs.Events.{events_of, tables_after}
+use Rattle.history.specs.declared.call.Call.{Call}
+use Rattle.history.specs.declared.call.Event.{Event}
+use Rattle.job.specs.Format.{Content}
+use Rattle.job.specs.Opening.{opening}
+use Rattle.job.specs.Records.{records_of, fault_of}
+use Rattle.job.specs.declared.record.Cause.{Cause}
+use Rattle.job.specs.declared.record.Fault.{Fault}
+use Rattle.measure.specs.Costs.{Price}
 use Rattle.measure.specs.Names.{named_price}
-use Rattle.run.specs.Faults.{fault_text}
-use Rattle.run.specs.State.{State, started}
-use Rattle.run.specs.Steps.{costs_text, seat_text, state_left}
-use Rattle.run.specs.Turns.{Said, turn}
-use Rattle.run.specs.declared.fault.Fault.TheVariants.{Unread}
+use Rattle.measure.specs.declared.name.MeasureName.{MeasureName}
+use Rattle.run.specs.Steps.{costs_text, seat_text}
+use Rattle.run.specs.Turns.{call_in, event_said, name_in, unread_said}
 
--- the lines of seats, one after another
-abbrev pub cell_texts : List Seat → List ℕ
-cell_texts seats = flat_map seat_text seats
+-- the calls that records ask for
+abbrev pub calls_in : List Content → List Call
+calls_in records = map call_in records
 
--- what a step says and what is said after it; nothing where there is no step
-abbrev pub turn_text : (State → List ℕ) → Option (Said × State) → List ℕ
-turn_text after None = []
-turn_text after (Some t) = t.0.line ++ after t.1
+-- a line for each record, from this index on, by what came of their calls
+abbrev pub record_lines : ℕ → List Content → List Event → List ℕ
+record_lines index [] events = []
+record_lines index (c ∷ records) [] = []
+record_lines index (c ∷ records) (event ∷ events) =
+    (event_said index (name_in c) event).line ++ record_lines (index + 1) records events
 
-module _ (price : Price) where
-  -- what the steps from a state on say, of at most so many
-  abbrev pub steps_text : ℕ → State → List ℕ
-  steps_text zero s = []
-  steps_text (suc most) s = turn_text (steps_text most) (turn price s)
+-- the line of the fault that ends a job, if one does
+abbrev pub fault_line : Option Fault → List ℕ
+fault_line None = []
+fault_line (Some fault) = (unread_said fault).line
 
-  -- the state at the end, after at most so many steps
-  abbrev pub run_end : ℕ → State → State
-  run_end zero s = s
-  run_end (suc most) s = run_end most (state_left s (turn price s))
+-- a line for each seat
+abbrev pub cell_lines : List Seat → List ℕ
+cell_lines seats = flat_map seat_text seats
 
-  -- what is said at a job's end: the lines of the cells that stand, and what they cost
-  abbrev pub end_text : State → List ℕ
-  end_text s = cell_texts s.seats ++ costs_text price s
+-- the lines of what stands: a line for each cell, and one for what they cost
+abbrev pub end_lines : Price → Tables → List ℕ
+end_lines price tables = cell_lines tables.seats ++ costs_text price tables
 
-  -- what is said from a state on, of at most so many steps
-  abbrev pub run_text : ℕ → State → List ℕ
-  run_text most s = steps_text most s ++ end_text (run_end most s)
+-- what a job says with these events, at whose end a floor holds these tables
+abbrev pub lines_with : Price → List ℕ → List Event → Tables → List ℕ
+lines_with price job events tables =
+    (record_lines 0 (records_of job) events ++ fault_line (fault_of job)) ++ end_lines price tables
 
--- as many steps as a job has bytes, and one, reach its end
-abbrev pub enough : List ℕ → ℕ
-enough bytes = length bytes + 1
-
--- what a job says that was opened or refused: on a floor with no rows
-abbrev pub opened_text : Result Opened unread.Fault → List ℕ
-opened_text (Ok job) = run_text (named_price job.measure) (enough job.bytes) (started job.bytes [] [])
-opened_text (Err fault) = fault_text None (Unread fault)
+-- what a job says whose opening is answered so: its calls are made on a floor with nothing on it
+abbrev pub opened_text : List ℕ → Result MeasureName Cause → List ℕ
+opened_text job (Ok measure) =
+    let price = named_price measure in
+    let calls = calls_in (records_of job) in
+    lines_with price job (events_of price no_tables calls) (tables_after price no_tables calls)
+opened_text job (Err cause) = fault_line (fault_of job)
 
 abbrev pub job_text : List ℕ → List ℕ
-job_text bytes = opened_text (open_answer bytes)
+job_text job = opened_text job (opening job)

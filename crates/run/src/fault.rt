@@ -1,24 +1,21 @@
 // Why a record is not carried out.
-ghost use Rattle.std.specs.Prelude.{◌≡◌};
-ghost use Rattle.lines.specs.Texts.{named, name_of, text};
-ghost use Rattle.run.specs.Faults.{Small, ends, fault_name, fault_number, fault_text};
+ghost use Rattle.std.specs.Prelude.{◌≡◌, Some};
+ghost use Rattle.lines.specs.Texts.{named, text};
+ghost use Rattle.run.specs.Faults.{fault_number, fault_text, fault_words};
 ghost use Rattle.run.specs.declared.fault.Fault.TheVariants as fault;
 
 use floor::Refusal;
+use job::Name;
 use lines::Line;
+use std::error::Error;
+use std::fmt;
 
-// A record that the floor refuses: its index, and why.
-#[derive(Clone, Copy, PartialEq, Eq, Debug)]
-pub struct Refused {
-    pub index: usize,
-    pub refusal: Refusal,
-}
-
-// The fault of a run: a record cannot be read, or the floor refuses it. What is printed of it is its line, with its number.
+/// The fault of a run: a record cannot be read, which ends the job, or the floor refuses it.
+/// What is printed of it is a line with its number.
 #[derive(Clone, Copy, PartialEq, Eq, Debug)]
 pub enum Fault {
     Unread(job::Fault),
-    Refused(Refused),
+    Refused(Refusal),
 }
 
 impl From<job::Fault> for Fault {
@@ -29,47 +26,53 @@ impl From<job::Fault> for Fault {
     }
 }
 
-impl From<Refused> for Fault {
-    ghost from_gives = { λ refused r. r ≡ fault.Refused refused };
+impl From<Refusal> for Fault {
+    ghost from_gives = { λ refusal r. r ≡ fault.Refused refusal };
 
-    fn from(refused: Refused) -> Fault {
-        Fault::Refused(refused)
+    fn from(refusal: Refusal) -> Fault {
+        Fault::Refused(refusal)
     }
 }
 
+// What the reader or the floor says.
+impl fmt::Display for Fault {
+    ghost output = { λ fault. Some (fault_words fault) };
+
+    fn fmt<W: fmt::Write>(&self, f: &mut fmt::Formatter<W>) -> fmt::Result {
+        match self {
+            Fault::Unread(unread) => unread.fmt(f),
+            Fault::Refused(refusal) => refusal.fmt(f),
+        }
+    }
+}
+
+impl Error for Fault {}
+
 impl Fault {
-    // The number of a fault: that of the reader's refusal or of the floor's.
+    /// The number of the reader's refusal (12 to 19) or of the floor's (1 to 11).
     pub fn number(self) -> u32
         ensures { result ≡ fault_number self }
     {
         match self {
             Fault::Unread(unread) => unread.cause.number(),
-            Fault::Refused(refused) => refused.refusal.number(),
+            Fault::Refused(refusal) => refusal.number(),
         }
     }
 
-    // Whether the job counts as ended after this fault: it cannot be read on.
-    pub(crate) fn ends_job(self) -> bool
-        ensures { result ≡ ends self }
-    {
-        matches!(self, Fault::Unread(_))
-    }
-
-    // The line of a fault of a record with a name or none: only the line of a refusal shows the name.
-    pub(crate) fn line<'a>(self, name: Option<&'a [u8]>) -> Line<'a>
-        requires { Small self }
-        ensures text { text result ≡ fault_text (named name.entry) self }
-        ensures name { name_of result ≡ fault_name (named name.entry) self }
+    /// The line of a fault of a record with this index, and a name or none, which only a refusal
+    /// shows.
+    pub(crate) fn line<'a>(self, index: u16, name: Option<Name<'a>>) -> Line<'a>
+        ensures { text result ≡ fault_text index (named name.entry) self }
     {
         match self {
             Fault::Unread(unread) => Line::Unreadable {
-                index: unread.index as u32,
+                index: unread.index,
                 number: unread.cause.number(),
-                place: unread.place as u32,
+                place: unread.place,
             },
-            Fault::Refused(refused) => Line::Refused {
-                index: refused.index as u32,
-                number: refused.refusal.number(),
+            Fault::Refused(refusal) => Line::Refused {
+                index,
+                number: refusal.number(),
                 name,
             },
         }

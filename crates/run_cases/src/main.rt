@@ -32,7 +32,7 @@ fn main(rt: HostRuntime) -> anyhow::Result<()> {
     for line in BufReader::new(heap, rt.stdin())?.lines(heap) {
         let job = job_of(heap, line?.as_str())?;
         let mut said = Vec::new(heap);
-        carry_out(heap, &mut said, job.as_slice())?;
+        carry_out(&mut said, job.as_slice()).added?;
         rt.stdout().write_all(said.as_slice())?;
         println!(rt; "end")?;
     }

@@ -1,27 +1,23 @@
 // The name of a cell.
-ghost use Rattle.std.specs.Prelude.{◌≡◌, ◌+◌, IfOk};
+ghost use Rattle.std.specs.Prelude.{◌≡◌, ◌+◌, IfOk, true};
+ghost use Rattle.std.specs.List.{between, list_all};
 ghost use Rattle.std.specs.Option.{option_map};
-ghost use Rattle.job.specs.Format.{printable, good_bytes, name, name_field};
+ghost use Rattle.job.specs.Format.{good_bytes, name, name_field};
+ghost use Rattle.job.specs.Names.{printable};
 ghost use Rattle.job.specs.Reads.{Reads, viewed, named};
 ghost use Rattle.job.specs.declared.cursor.map.TheConstants.{CELL_NAME};
 
 use crate::cursor::map::{CELL_NAME, Map};
 use crate::cursor::{Cursor, Flaw};
-use crate::named::Name;
+use crate::named::{Name, Named, is_printable};
 use crate::record::Cause;
-
-// Whether a name may have a byte.
-fn is_printable(byte: u8) -> bool
-    ensures { result ≡ printable byte }
-{
-    byte.is_ascii_graphic()
-}
 
 impl<'a> Cursor<'a> {
     // Moves over so many bytes of a name, each of which has to be one that a name may have.
     fn pass_name(&mut self, size: u8) -> Result<(), Flaw>
         ensures reads { Reads (good_bytes size) self.old result self.new }
         ensures ends { IfOk result (λ _. self.new.at ≡ self.old.at + size) }
+        ensures good { IfOk result (λ _. list_all printable (between self.old.at self.new.at self.old.job.now) ≡ true) }
     {
         for _ in 0..size {
             let place = self.at;
@@ -33,7 +29,7 @@ impl<'a> Cursor<'a> {
     }
 
     // The name at this place: its length, which is not 0, and its bytes.
-    fn take_name(&mut self) -> Result<Name<'a>, Flaw>
+    fn take_name(&mut self) -> Result<Named<'a>, Flaw>
         ensures { Reads name self.old (viewed named result) self.new }
     {
         let place = self.at;
@@ -41,16 +37,15 @@ impl<'a> Cursor<'a> {
         if size == 0 {
             return Err(Cause::BadName.at(place));
         }
-        let at = self.at;
+        let place = self.at;
         self.pass_name(size)?;
-        Ok(Name {
-            text: &self.job[at..self.at],
-            at,
-        })
+        let bytes = &self.job[usize::from(place)..usize::from(self.at)];
+        let name = Name { bytes };
+        Ok(Named { name, place })
     }
 
     // The name, where its bit stands in the map.
-    pub(crate) fn take_name_field(&mut self, map: Map) -> Result<Option<Name<'a>>, Flaw>
+    pub(crate) fn take_name_field(&mut self, map: Map) -> Result<Option<Named<'a>>, Flaw>
         ensures { Reads (name_field map.bits CELL_NAME) self.old (viewed (option_map named) result) self.new }
     {
         if map.has(CELL_NAME) {

@@ -1,6 +1,6 @@
 // The records: a kind, a map, and the fields whose bits stand in it.
 ghost use Rattle.job.specs.Format.{kind_at, row_part, cell_part, withdrawal_part, read_record};
-ghost use Rattle.job.specs.Reads.{Reads, viewed, cell_named, content};
+ghost use Rattle.job.specs.Reads.{Forward, Reads, viewed, cell_named, content};
 
 use crate::cursor::map::{
     CELL_LINE, CELL_NUMBER, CELL_SITE, CELL_WEIGHT, CELL_WIDTH, Form, ROW_LEFT, ROW_LINE,
@@ -8,7 +8,7 @@ use crate::cursor::map::{
 };
 use crate::cursor::{Cursor, Flaw};
 use crate::kind::Kind;
-use crate::named::Name;
+use crate::named::Named;
 use crate::record::Record;
 use row::{Cell, Row, Spot};
 
@@ -25,7 +25,7 @@ impl<'a> Cursor<'a> {
     }
 
     // What a cell that is placed or tried holds after its kind.
-    fn take_cell(&mut self) -> Result<(Cell, Option<Name<'a>>), Flaw>
+    fn take_cell(&mut self) -> Result<(Cell, Option<Named<'a>>), Flaw>
         ensures { Reads cell_part self.old (viewed cell_named result) self.new }
     {
         let map = self.take_map(Form::Cell)?;
@@ -62,8 +62,10 @@ impl<'a> Cursor<'a> {
     }
 
     // The record at this place.
+    #[tactic(auto, using(crate::proofs::Advance::forward))]
     pub(crate) fn take_record(&mut self) -> Result<Record<'a>, Flaw>
-        ensures { Reads read_record self.old (viewed content result) self.new }
+        ensures reads { Reads read_record self.old (viewed content result) self.new }
+        ensures forward { Forward self.old result self.new }
     {
         match self.take_kind()? {
             Kind::Row => Ok(Record::Row(self.take_row()?)),

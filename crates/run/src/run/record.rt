@@ -1,26 +1,27 @@
 // Carrying out one record on the floor.
-ghost use Rattle.std.specs.Prelude.{◌≡◌, ◌≤◌, length, IfErr, IfOk, IfSome};
-ghost use Rattle.history.specs.Events.{event_of, rows_then, seats_then};
+ghost use Rattle.std.specs.Prelude.{◌≡◌, List, ◌∷◌};
+ghost use Rattle.history.specs.Events.{event_of, tables_then};
+ghost use Rattle.history.specs.Lawful.{Lawful};
+ghost use Rattle.history.specs.declared.call.Event.{Event};
 ghost use Rattle.job.specs.Reads.{content};
-ghost use Rattle.lines.specs.Texts.{named, name_of};
-ghost use Rattle.run.specs.Faults.{Small};
-ghost use Rattle.run.specs.State.{measure_in, state};
-ghost use Rattle.run.specs.Turns.{call_in, event_said, name_in, told};
+ghost use Rattle.lines.specs.Texts.{named};
+ghost use Rattle.run.specs.Parts.{as_said};
+ghost use Rattle.run.specs.State.{floor_of, measure_in, price_in, state};
+ghost use Rattle.run.specs.Turns.{call_in, event_said, faulted, name_in, told};
 
-use crate::fault::{Fault, Refused};
-use crate::run::Run;
+use crate::fault::Fault;
+use crate::run::{Run, Said};
 use history::{Call, Event};
-use job::Record;
+use job::{Name, Record};
 use lines::Line;
 use measure::Measure;
 
 // The name in a record, if it has one.
-pub(crate) fn record_name<'a>(found: Record<'a>) -> Option<&'a [u8]>
-    ensures value { named result ≡ name_in (content found.entry) }
-    ensures short { IfSome result (λ name. length name.now ≤ 255) }
+fn record_name<'a>(found: Record<'a>) -> Option<Name<'a>>
+    ensures { named result ≡ name_in (content found.entry) }
 {
     match found {
-        Record::Place(_, name) | Record::Try(_, name) => name.map(|name| name.text),
+        Record::Place(_, named) | Record::Try(_, named) => named.map(|named| named.name),
         Record::Row(_) | Record::Withdraw(_) => None,
     }
 }
@@ -37,27 +38,22 @@ fn record_call<'a>(found: Record<'a>) -> Call
     }
 }
 
-// The line of an event of a record with a name or none, or why its call was refused.
-fn event_line<'a>(event: Event, index: usize, name: Option<&'a [u8]>) -> Result<Line<'a>, Fault>
-    requires index { index ≤ 65535 }
-    requires short_name { IfSome name (λ bytes. length bytes.now ≤ 255) }
-    ensures said { told (named name.entry) result ≡ event_said index (named name.entry) event }
-    ensures short { IfOk result (λ line. length (name_of line) ≤ 255) }
-    ensures small { IfErr result Small }
+// The line of an event of a record with this index, and a name or none, or why its call was
+// refused.
+fn event_line<'a>(event: Event, index: u16, name: Option<Name<'a>>) -> Result<Line<'a>, Fault>
+    ensures { told index (named name.entry) result ≡ event_said index (named name.entry) event }
 {
-    let refused = |refusal| Refused { index, refusal };
-    let index = index as u32;
     match event {
         Event::Added(_, answer) => {
-            answer.map_err(refused)?;
+            answer?;
             Ok(Line::Granted { index, name })
         }
         Event::Withdrawn(_, answer) => {
-            answer.map_err(refused)?;
+            answer?;
             Ok(Line::Granted { index, name })
         }
         Event::Placed(_, answer) | Event::Tried(_, answer) => {
-            let placing = answer.map_err(refused)?;
+            let placing = answer?;
             Ok(Line::Seated {
                 index,
                 line: placing.spot.line,
@@ -69,25 +65,43 @@ fn event_line<'a>(event: Event, index: usize, name: Option<&'a [u8]>) -> Result<
     }
 }
 
-impl<'a, M: Measure + Drop> Run<'a, M> {
-    // Carries out a record on the floor: its line, or why its call was refused.
-    pub(crate) fn carry_out_record(
-        &mut self,
-        index: usize,
-        found: Record<'a>,
-    ) -> Result<Line<'a>, Fault>
-        requires index { index ≤ 65535 }
-        ensures said { told (name_in (content found.entry)) result
-            ≡ event_said index (name_in (content found.entry)) (event_of (M.price (measure_in self.old)) (state self.old).rows (state self.old).seats (call_in (content found.entry))) }
-        ensures rows { (state self.new).rows ≡ rows_then (state self.old).rows (call_in (content found.entry)) }
-        ensures seats { (state self.new).seats ≡ seats_then (M.price (measure_in self.old)) (state self.old).rows (state self.old).seats (call_in (content found.entry)) }
+impl<'a> Said<'a> {
+    // What is said of a fault of a record with this index, and a name or none.
+    pub(crate) fn of_fault(fault: Fault, index: u16, name: Option<Name<'a>>) -> Said<'a>
+        ensures { as_said result ≡ faulted index (named name.entry) fault }
+    {
+        Said {
+            line: fault.line(index, name),
+            fault: Some(fault),
+        }
+    }
+
+    // What is said of an event of a record with this index, and a name or none.
+    fn of_event(event: Event, index: u16, name: Option<Name<'a>>) -> Said<'a>
+        ensures { as_said result ≡ event_said index (named name.entry) event }
+    {
+        match event_line(event, index, name) {
+            Ok(line) => Said { line, fault: None },
+            Err(fault) => Said::of_fault(fault, index, name),
+        }
+    }
+}
+
+impl<'a, M: Measure> Run<'a, M> {
+    // Carries out a record with this index on the floor: what is said of it.
+    pub(crate) fn carry_out_record(&mut self, index: u16, found: Record<'a>) -> Said<'a>
+        ensures said { as_said result ≡ event_said index (name_in (content found.entry))
+            (event_of (price_in self.old) (state self.old).tables (call_in (content found.entry))) }
+        ensures tables { (state self.new).tables ≡ tables_then (price_in self.old)
+            (state self.old).tables (call_in (content found.entry)) }
         ensures same { measure_in self.new ≡ measure_in self.old }
         ensures reader { self.new.reader ≡ self.old.reader }
-        ensures ended { self.new.ended ≡ self.old.ended }
-        ensures short { IfOk result (λ line. length (name_of line) ≤ 255) }
-        ensures small { IfErr result Small }
+        ensures fault { self.new.fault ≡ self.old.fault }
+        ensures law { (history : List Event) → Lawful history (floor_of self.old)
+            → Lawful (event_of (price_in self.old) (state self.old).tables
+            (call_in (content found.entry)) ∷ history) (floor_of self.new) }
     {
         let event = record_call(found).make(&mut self.floor);
-        event_line(event, index, record_name(found))
+        Said::of_event(event, index, record_name(found))
     }
 }

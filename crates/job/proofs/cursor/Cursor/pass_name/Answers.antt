@@ -1,7 +1,8 @@
-use Rattle.std.proofs.Common.{◌<◌, sym, ◌∙◌, arith}
+use Rattle.std.proofs.Common.{◌<◌, ap, sym, ◌∙◌, arith}
 use Rattle.std.proofs.lemmas.Result.{err_from_is_err_and}
+use Rattle.job.specs.Parts.{byte}
 use Rattle.job.proofs.Moves.{moved_on}
-use Rattle.job.proofs.Names.{good_next, good_not, good_end, byte_ends}
+use Rattle.job.proofs.Names.{good_next, good_not, good_end, good_on, byte_ends}
 use Rattle.job.proofs.cursor.Cursor.pass_name.Goals as goal
 
 pub returns-in_err-take_byte-clause-reads : goal.returns-in_err-take_byte-clause-reads
@@ -31,4 +32,5 @@ loop-preserved c =
       rw told.moved.same (sym (good_next c.args.size c.loop.counter _ _ more _ _ (sym told.reads) (sym c.if-not-is_printable.ensures)) ∙ c.loop.invariant.0),
       moved_on c.loop.invariant.1 told.moved,
       (let step = byte_ends _ _ _ _ told.reads in omega arith),
+      good_on _ _ _ _ _ (omega arith) (told.reads ∙ ap (λ job. byte job c.loop.self.at) c.loop.invariant.1.same) (sym c.if-not-is_printable.ensures) c.loop.invariant.3,
     )
