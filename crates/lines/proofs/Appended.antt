@@ -1,5 +1,5 @@
 -- One call that adds bytes after another.
-use Rattle.std.proofs.Common.{◌≡◌, ℕ, ◌+◌, ◌≤◌, List, [], ◌++◌, length, take, Ok, Err, Result, Vec, vec_items, vec_len, IsErr, refl, sym, ap, ◌∙◌, append-nil, append_assoc, arith, length-append, length-take}
+use Rattle.std.proofs.Common.{◌≡◌, ℕ, ◌+◌, ◌≤◌, List, [], ◌++◌, length, take, Ok, Err, Result, Vec, vec_items, vec_len, IsErr, sym, ap, ◌∙◌, append-nil, append_assoc, arith, length-append, length-take}
 use Rattle.std.proofs.lemmas.List.{take-append-le}
 use Rattle.std.specs.declared.alloc.Global.{Global}
 use Rattle.lines.specs.Appended.{Appends, HasBegun}

@@ -1,5 +1,5 @@
 -- How long lines are.
-use Rattle.std.proofs.Common.{ℕ, ◌+◌, ◌^◌, ◌<◌, ◌≤◌, length, Some, None, decimal, Option, arith, length-append}
+use Rattle.std.proofs.Common.{ℕ, ◌^◌, ◌<◌, ◌≤◌, length, Some, None, decimal, Option, arith, length-append}
 use Rattle.std.proofs.lemmas.Fmt.{length-decimal-le}
 use Rattle.job.specs.declared.named.Name.{Name}
 use Rattle.lines.specs.Texts.{ending, text}

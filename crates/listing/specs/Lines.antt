@@ -10,7 +10,6 @@ use Rattle.job.specs.declared.record.Cause.{Cause}
 use Rattle.job.specs.declared.record.Fault.{Fault}
 use Rattle.measure.specs.Names.{word}
 use Rattle.measure.specs.declared.name.MeasureName.{MeasureName}
-use Rattle.row.specs.declared.Cell.{Cell}
 use Rattle.row.specs.declared.Row.{Row}
 
 -- parts of a text, one after another

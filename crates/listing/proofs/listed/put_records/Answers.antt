@@ -1,8 +1,7 @@
-use Rattle.std.proofs.Common.{◌≡◌, ◌++◌, Some, Ok, Err, refl, sym, ap, ◌∙◌, append_assoc}
+use Rattle.std.proofs.Common.{◌≡◌, ◌++◌, Err, refl, sym, ap, ◌∙◌, append_assoc}
 use Rattle.std.proofs.lemmas.Result.{err_from_is_err_and}
 use Rattle.job.specs.Reading.{standing}
 use Rattle.job.specs.Reads.{content}
-use Rattle.job.specs.Records.{Takes}
 use Rattle.lines.proofs.Appended.{appends_then, appends_stop}
 use Rattle.listing.proofs.Appending.{lines_step}
 use Rattle.listing.specs.Left.{lines_left}
