@@ -17,7 +17,7 @@ mod setting;
 
 use crate::Seat;
 use arrayvec::ArrayVec;
-use measure::Measure;
+use measure::{Measure, Move};
 use row::{Cell, MOST_CELLS, Row, Spot};
 pub(crate) use setting::set_ready;
 use std::ops::Range;
@@ -84,7 +84,12 @@ impl Seat {
         requires { Sited self.now }
         ensures { result ≡ seat_cost (M.price measure.now) self.now }
     {
-        self.cell.site_cost(measure, self.site)
+        let Seat { cell, row: _, site } = self;
+        measure.price_at(Move {
+            wanted: cell.wanted.site as u16,
+            weight: cell.weight as u16,
+            place: *site as u16,
+        })
     }
 
     // Whether a seat is on a row.

@@ -9,7 +9,7 @@ use measure::{Measure, Move, Step};
 impl Cell {
     /// What the cell costs at a site.
     #[inline]
-    pub fn site_cost<M: Measure>(&self, measure: &M, site: u32) -> u64
+    pub(crate) fn site_cost<M: Measure>(&self, measure: &M, site: u32) -> u64
         requires passes { Passes self.now }
         requires inside { site ≤ 65535 }
         ensures { result ≡ site_cost (M.price measure.now) self.now site }
