@@ -1,4 +1,3 @@
 pub mod Appended
 pub mod Fronts
 pub mod Lengths
-pub mod Outputs

@@ -2,4 +2,3 @@ pub mod Appended
 pub mod Fronts
 pub mod Texts
 pub mod Writes
-pub mod Written

@@ -10,13 +10,11 @@ ghost use Rattle.lines.specs.declared.TheConstants.{LEAST_BUFFER};
 
 mod appending;
 mod front;
-mod output;
 mod short_buffer;
 
 pub use appending::append;
 use front::Front;
 use job::Name;
-pub use output::write_out;
 pub use short_buffer::ShortBuffer;
 use std::alloc::AllocError;
 

@@ -1,17 +1,17 @@
 -- One piece, or one line, after another.
-use Rattle.std.proofs.Common.{◌≡◌, ℕ, ◌+◌, ◌<◌, List, [], ◌++◌, length, get_or, take, drop, None, Some, Option, IfSome, Ok, Err, Result, sym, ap, subst, ◌∙◌, append_assoc, take-append-drop}
-use Rattle.std.proofs.lemmas.List.{flat_map_more, take_more}
+use Rattle.std.proofs.Common.{◌≡◌, ℕ, ◌+◌, ◌<◌, ◌≤◌, inl, inr, List, [], ◌++◌, length, get_or, take, drop, None, Some, Option, IfSome, Ok, sym, ap, subst, ◌∙◌, append_assoc, append-nil, take-append-drop, arith, length-take-le}
+use Rattle.std.proofs.lemmas.Bool.{cases_lt}
+use Rattle.std.proofs.lemmas.List.{flat_map_more, take_at, take_more}
 use Rattle.std.proofs.lemmas.List.Concat.{flat_map-append}
 use Rattle.std.specs.List.{flat_map}
-use Rattle.std.specs.Option.{option_map}
+use Rattle.std.specs.Io.KnownBytes.{Consumes, IsAtEnd}
 use Rattle.job.proofs.Records.{same_job}
 use Rattle.job.specs.Format.{Content}
 use Rattle.job.specs.Reading.{Standing}
 use Rattle.job.specs.Records.{Takes, fault_left, records_left}
-use Rattle.lines.proofs.Outputs.{written_none}
 use Rattle.lines.proofs.Appended.{appends_none, appends_then, appends_stop}
-use Rattle.lines.specs.Written.{Writes}
 use Rattle.listing.specs.Left.{lines_left}
+use Rattle.listing.specs.declared.whole.TheConstants.{MOST_READ}
 use Rattle.listing.specs.Lines.{first_line, job_lines, last_line, record_line, record_lines}
 
 pub ruleset appending = (appends_none, appends_then, appends_stop)
@@ -36,17 +36,24 @@ cut_lines bytes =
     let same = same_job bytes in
     (λ i. first_line (same.opens i) ++ (record_lines 0 (same.records i) ++ last_line (same.fault i)))
 
--- what was written of the job that was read is said of all that there was to read
-pub listed : {X E : Type 0} (known : Option (List ℕ)) (read : List ℕ) (from : Option (List ℕ)) (r : Result X E) (to : Option (List ℕ)) → IfSome known (λ all. read ≡ take 65536 all) → Writes from r (job_lines read) to → IfSome known (λ job. Writes from r (job_lines job) to)
-listed None read from r to is writes = tt
-listed (Some job) read from r to is writes = subst (λ lines. Writes from r lines to) (ap job_lines is ∙ cut_lines job) writes
+-- what was read has the lines of all that there was to read
+pub read_lines : (known rest : Option (List ℕ)) (room : List ℕ) (n : ℕ) → length room ≡ MOST_READ → n ≤ length room → Consumes known rest (take n room) → (n < length room → IsAtEnd rest) → IfSome known (λ job. job_lines (take n room) ≡ job_lines job)
+read_lines None rest room n size within read ends = tt
+read_lines (Some job) None room n size within read ends = absurd read
+read_lines (Some job) (Some xs) room n size within read ends =
+    let part : length (take n room) ≡ n = length-take-le n room within in
+    let cut : n ≡ 65536 → take 65536 job ≡ take n room = λ full. ap (take 65536) read ∙ take_at (take n room) xs 65536 (part ∙ full) in
+    elim (cases_lt n 65536) as (λ _. job_lines (take n room) ≡ job_lines job) [
+      | inl short ↦ ap job_lines (sym (read ∙ ap (λ ys. take n room ++ ys) (ends (omega (arith, size, short))) ∙ append-nil (take n room)))
+      | inr long ↦ ap job_lines (sym (cut (omega (arith, size, long, within)))) ∙ cut_lines job
+    ]
 
--- where nothing was written, the call failed
-pub unwritten : {X E : Type 0} (known : Option (List ℕ)) (from : Option (List ℕ)) (r : Result X E) (e : E) → r ≡ Err e → IfSome known (λ job. Writes from r (job_lines job) from)
-unwritten None from r e is = tt
-unwritten (Some job) from r e is = rw is (record { whole = tt; part = (0, written_none from (job_lines job)) })
+-- where the buffer had no room for the listing of what was read, it had none for the job's
+pub room_lacks : (known : Option (List ℕ)) (read : List ℕ) (room : ℕ) → IfSome known (λ job. job_lines read ≡ job_lines job) → room < length (job_lines read) → IfSome known (λ job. room < length (job_lines job))
+room_lacks None read room same few = tt
+room_lacks (Some job) read room same few = omega (arith, few, ap length same)
 
--- what was read up to a limit is the front of all that there was to read
-pub read_front : (known : Option (List ℕ)) (limit : ℕ) (read : List ℕ) → IfSome (option_map (take limit) known) (λ xs. read ≡ xs) → IfSome known (λ all. read ≡ take limit all)
-read_front None limit read is = tt
-read_front (Some all) limit read is = is
+-- what was written of the listing of what was read is of the job's
+pub listed : (known : Option (List ℕ)) (read : List ℕ) (P : List ℕ → Type 0) → IfSome known (λ job. job_lines read ≡ job_lines job) → P (job_lines read) → IfSome known (λ job. P (job_lines job))
+listed None read P same holds = tt
+listed (Some job) read P same holds = subst P same holds

@@ -5,8 +5,10 @@
 mod listed;
 mod parts;
 mod pieces;
+mod unlisted;
 mod whole;
 
 pub use listed::put_job;
 pub use parts::put_line;
-pub use whole::list;
+pub use unlisted::Unlisted;
+pub use whole::{MOST_READ, list};

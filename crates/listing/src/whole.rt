@@ -1,36 +1,39 @@
 // From a job's bytes to its listing, from where they are read to where it is written.
-ghost use Rattle.std.specs.Prelude.{◌≡◌, IfOk, IfSome, take};
-ghost use Rattle.lines.specs.Written.{Writes};
+ghost use Rattle.std.specs.Prelude.{IfErr, IfSome, OnOk, vec_capacity};
+ghost use Rattle.std.specs.Io.KnownBytes.{Appends};
+ghost use Rattle.streams.specs.Streams.{ReadsUpTo};
 ghost use Rattle.listing.specs.Lines.{job_lines};
-ghost use Rattle.listing.specs.declared.whole.TheConstants.{ENOUGH};
+ghost use Rattle.listing.specs.Unlisted.{LeavesOut};
+ghost use Rattle.listing.specs.declared.whole.TheConstants.{MOST_READ};
 
 use crate::listed::put_job;
-use lines::write_out;
-use std::alloc::Global;
-use std::io;
-use std::io::{Read, Write};
+use crate::unlisted::Unlisted;
+use streams::{Sink, Source, deliver, fetch};
 
-// One byte more than the longest job has: as many as it takes to refuse a longer one.
-const ENOUGH: u64 = 65_536;
+/// How many bytes of an input are read at most: one more than a job may have, as many as it takes to
+/// refuse a longer one.
+pub const MOST_READ: usize = 65_536;
 
-// Reads as many bytes as it takes to read a job, or to refuse a longer one.
-fn read_job<R: Read>(heap: Global, input: &mut R) -> io::Result<Vec<u8>>
-    ensures { IfOk result (λ job. IfSome (R.remaining input.old) (λ all. job.items ≡ take ENOUGH all)) }
-{
-    let mut job = Vec::new(heap);
-    input.take(ENOUGH).read_to_end(&mut job)?;
-    Ok(job)
-}
-
-/// Reads a job, at most its first 65,536 bytes, which are enough to refuse a longer one, and writes
-/// its listing and nothing else. Where reading or writing fails, or memory does not suffice, at most a
+/// Reads a job, at most its first 65,536 bytes, and writes its listing and nothing else. The listing
+/// is gathered in `listing`, whose contents are cleared. Where the call fails, the input failed and
+/// nothing is written, or `listing` had no room and nothing is written, or the output failed and a
 /// first part of the listing is written.
-pub fn list<R: Read, W: Write>(heap: Global, input: &mut R, output: &mut W) -> io::Result<()>
-    ensures { IfSome (R.remaining input.old) (λ job.
-        Writes (W.contents output.old) result (job_lines job) (W.contents output.new)) }
+pub fn list<R: Source, W: Sink>(
+    listing: &mut Vec<u8>,
+    input: &mut R,
+    output: &mut W,
+) -> Result<(), Unlisted>
+    ensures lines { OnOk result (IfSome (R.remaining input.old) (λ job.
+        Appends (W.contents output.old) (W.contents output.new) (job_lines job))) }
+    ensures failure { IfErr result (LeavesOut (R.failed input.new) (W.failed output.new)
+        (vec_capacity listing.old) (R.remaining input.old)
+        (W.contents output.old) (W.contents output.new)) }
+    ensures few { ReadsUpTo MOST_READ (R.remaining input.old) (R.remaining input.new) }
 {
-    let job = read_job(heap, input)?;
-    let mut listing = Vec::new(heap);
-    put_job(&mut listing, job.as_slice())?;
-    write_out(output, listing.as_slice())
+    let mut room = [0; MOST_READ];
+    let length = fetch(input, &mut room)?;
+    listing.clear();
+    put_job(listing, &room[..length])?;
+    deliver(output, listing.as_slice())?;
+    Ok(())
 }

@@ -2,8 +2,15 @@
 #![tactic(auto)]
 
 use listing::list;
-use std::io;
+use std::process::ExitCode;
 
-fn main(rt: HostRuntime) -> io::Result<()> {
-    list(rt.alloc(), &mut rt.stdin(), &mut rt.stdout())
+fn main(rt: HostRuntime) -> ExitCode {
+    let mut listing = Vec::new(rt.alloc());
+    match list(&mut listing, &mut rt.stdin(), &mut rt.stdout()) {
+        Ok(()) => ExitCode::SUCCESS,
+        Err(why) => {
+            let _ = eprintln!(rt; "listjob: {why}");
+            ExitCode::FAILURE
+        }
+    }
 }

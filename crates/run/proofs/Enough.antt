@@ -1,5 +1,5 @@
 -- The first 65,536 bytes of a longer input tell all that is said of it: that it is too long.
-use Rattle.std.proofs.Common.{◌≡◌, ℕ, ◌<◌, Bool, true, false, List, [], ◌++◌, length, IfSome, IfOk, IfErr, OnOk, Some, None, Ok, Err, Option, Result, Vec, nat_lt, vec_capacity, refl, sym, ap, subst, ◌∙◌, append-nil, length-append, arith}
+use Rattle.std.proofs.Common.{◌≡◌, ℕ, ◌<◌, Bool, true, false, List, [], ◌++◌, length, take, IfSome, IfOk, IfErr, OnOk, Some, None, Ok, Err, Option, Result, Vec, nat_lt, vec_capacity, refl, sym, ap, subst, ◌∙◌, append-nil, length-append, arith}
 use Rattle.std.proofs.lemmas.Bool.Decides.{nat_tests}
 use Rattle.std.specs.Io.KnownBytes.{Appends, Consumes, IsAtEnd}
 use Rattle.std.specs.Process.{exit_status}
@@ -13,12 +13,11 @@ use Rattle.job.specs.declared.record.Fault.{Fault}
 use Rattle.lines.specs.Texts.{newline}
 use Rattle.run.specs.Complaints.{complaint_about, complaint_line, complaint_text, status_of}
 use Rattle.run.specs.Legalized.{LacksRoom, LeavesOut, complaint, status}
-use Rattle.run.specs.Streams.{Fetched, WritesPart}
 use Rattle.run.specs.Texts.{fault_line, job_text, opened_text}
 use Rattle.run.specs.declared.complaint.Complaint.{Complaint}
 use Rattle.run.specs.declared.complaint.Complaint.TheVariants.{Unread}
 use Rattle.run.specs.declared.legalizing.Failure.{Failure}
-use Rattle.run.specs.declared.legalizing.Failure.TheVariants.{Unfetched, Unwritten, NoMemory}
+use Rattle.run.specs.declared.legalizing.Failure.TheVariants.{Unfetched, Unwritten, Untold, NoMemory}
 
 too_long : (job : List ℕ) → 65535 < length job → opening job ≡ Err TooLong
 too_long job long = grind (arith, nat_tests)
@@ -71,27 +70,29 @@ known : (old : Option (List ℕ)) (job : List ℕ) (P : List ℕ → Type 0) →
 known None job P like each = tt
 known (Some all) job P like each = each all like
 
-module _ (old new : Option (List ℕ)) (job : List ℕ) (fetched : Fetched 65536 old new job) where
+module _ (old new : Option (List ℕ)) (job : List ℕ) (consumed : Consumes old new job) (ended : length job < 65536 → IsAtEnd new) where
   pub lines_known : (r : Result ExitCode Failure) (out to : Option (List ℕ)) → OnOk r (Appends out to (job_text job)) → OnOk r (IfSome old (λ all. Appends out to (job_text all)))
-  lines_known (Ok code) out to of_job = known old job _ (alike old new job fetched.consumed fetched.ended) (λ all like. subst (Appends out to) like.lines of_job)
+  lines_known (Ok code) out to of_job = known old job _ (alike old new job consumed ended) (λ all like. subst (Appends out to) like.lines of_job)
   lines_known (Err why) out to of_job = tt
 
   pub said_known : (r : Result ExitCode Failure) (out to : Option (List ℕ)) → OnOk r (Appends out to (complaint job)) → OnOk r (IfSome old (λ all. Appends out to (complaint all)))
-  said_known (Ok code) out to of_job = known old job _ (alike old new job fetched.consumed fetched.ended) (λ all like. subst (Appends out to) like.said of_job)
+  said_known (Ok code) out to of_job = known old job _ (alike old new job consumed ended) (λ all like. subst (Appends out to) like.said of_job)
   said_known (Err why) out to of_job = tt
 
   pub status_known : (r : Result ExitCode Failure) → IfOk r (λ code. exit_status code ≡ status job) → IfOk r (λ code. IfSome old (λ all. exit_status code ≡ status all))
-  status_known (Ok code) of_job = known old job _ (alike old new job fetched.consumed fetched.ended) (λ all like. of_job ∙ like.status)
+  status_known (Ok code) of_job = known old job _ (alike old new job consumed ended) (λ all like. of_job ∙ like.status)
   status_known (Err why) of_job = tt
 
-  pub failed_known : (r : Result ExitCode Failure) (out to : Option (List ℕ)) → IfErr r (LeavesOut (Some job) out to) → IfErr r (LeavesOut old out to)
-  failed_known (Ok code) out to of_job = tt
-  failed_known (Err (Unfetched why)) out to of_job = of_job
-  failed_known (Err (Unwritten why)) out to of_job = known old job _ (alike old new job fetched.consumed fetched.ended) (λ all like. subst (WritesPart out to) like.lines of_job)
-  failed_known (Err NoMemory) out to of_job = of_job
+  pub failed_known : (r : Result ExitCode Failure) (unread unwritten : Type 0) (out to : Option (List ℕ)) → IfErr r (LeavesOut ⊥ unwritten (Some job) out to) → IfErr r (LeavesOut unread unwritten old out to)
+  failed_known (Ok code) unread unwritten out to of_job = tt
+  failed_known (Err (Unfetched why)) unread unwritten out to of_job = absurd of_job.0
+  failed_known (Err (Unwritten why)) unread unwritten out to of_job = (of_job.0, known old job _ (alike old new job consumed ended) (λ all like. (of_job.1.0, subst (λ text. Appends out to (take of_job.1.0 text)) like.lines of_job.1.1)))
+  failed_known (Err (Untold why)) unread unwritten out to of_job = known old job _ (alike old new job consumed ended) (λ all like. subst (Appends out to) like.lines of_job)
+  failed_known (Err NoMemory) unread unwritten out to of_job = of_job
 
   pub memory_known : (r : Result ExitCode Failure) (said : Vec ℕ Global) → IfErr r (LacksRoom (Some job) said) → IfErr r (LacksRoom old said)
   memory_known (Ok code) said of_job = tt
   memory_known (Err (Unfetched why)) said of_job = tt
   memory_known (Err (Unwritten why)) said of_job = tt
-  memory_known (Err NoMemory) said of_job = known old job _ (alike old new job fetched.consumed fetched.ended) (λ all like. subst (λ text. vec_capacity said < length text) like.lines of_job)
+  memory_known (Err (Untold why)) said of_job = tt
+  memory_known (Err NoMemory) said of_job = known old job _ (alike old new job consumed ended) (λ all like. subst (λ text. vec_capacity said < length text) like.lines of_job)

@@ -4,4 +4,3 @@ pub mod Jobs
 pub mod Enough
 pub mod Putting
 pub mod Rests
-pub mod StreamBytes

@@ -8,4 +8,3 @@ pub mod Steps
 pub mod Texts
 pub mod Turns
 pub mod Jobs
-pub mod Streams

@@ -2,23 +2,22 @@
 // standard error, and a status.
 ghost use Rattle.std.specs.Prelude.{◌≡◌, IfErr, IfNone, IfOk, IfSome, OnOk, OnSome, Some};
 ghost use Rattle.std.specs.Io.KnownBytes.{Appends};
+ghost use Rattle.streams.specs.Streams.{ReadsUpTo};
 ghost use Rattle.std.specs.Process.{exit_status};
 ghost use Rattle.run.specs.Complaints.{complaint_line, status_of};
 ghost use Rattle.run.specs.Legalized.{LacksRoom, LeavesOut, complaint, status};
-ghost use Rattle.run.specs.Streams.{ReadsUpTo};
 ghost use Rattle.run.specs.Texts.{job_text};
 ghost use Rattle.run.specs.declared.legalizing.Failure.TheVariants as failure;
 ghost use Rattle.run.specs.declared.legalizing.TheConstants.{MOST_READ};
 
 use crate::complaint::Complaint;
-use crate::streams::{ReadFailure, WriteFailure, write_line};
-use crate::transfers::{fetch, put_all};
 use crate::whole::{CarriedOut, carry_out};
 use std::alloc::AllocError;
 use std::error::Error;
-use std::fmt;
-use std::io::{Read, Write};
+use std::io::Write;
 use std::process::ExitCode;
+use std::{fmt, io};
+use streams::{NotRead, NotWritten, Sink, Source, deliver, fetch};
 
 /// How many bytes of an input are read: one more than a job may have, so that a longer one is
 /// refused.
@@ -27,27 +26,37 @@ pub const MOST_READ: usize = 65_536;
 /// Why a job is not answered in full.
 #[derive(Clone, Copy, Debug)]
 pub enum Failure {
-    /// A read of the input failed; nothing is written to standard output.
-    Unfetched(ReadFailure),
-    /// A write failed, to standard output or to standard error.
-    Unwritten(WriteFailure),
+    /// Reading the input failed; nothing is written to standard output.
+    Unfetched(NotRead),
+    /// Writing the lines failed; a first part of them is written to standard output.
+    Unwritten(NotWritten),
+    /// The sentence could not be written to standard error; all lines are written.
+    Untold(io::Error),
     /// Memory did not suffice for the lines; nothing is written to standard output.
     NoMemory,
 }
 
-impl From<ReadFailure> for Failure {
+impl From<NotRead> for Failure {
     ghost from_gives = { λ why r. r ≡ failure.Unfetched why };
 
-    fn from(why: ReadFailure) -> Failure {
+    fn from(why: NotRead) -> Failure {
         Failure::Unfetched(why)
     }
 }
 
-impl From<WriteFailure> for Failure {
+impl From<NotWritten> for Failure {
     ghost from_gives = { λ why r. r ≡ failure.Unwritten why };
 
-    fn from(why: WriteFailure) -> Failure {
+    fn from(why: NotWritten) -> Failure {
         Failure::Unwritten(why)
+    }
+}
+
+impl From<io::Error> for Failure {
+    ghost from_gives = { λ why r. r ≡ failure.Untold why };
+
+    fn from(why: io::Error) -> Failure {
+        Failure::Untold(why)
     }
 }
 
@@ -59,14 +68,13 @@ impl From<AllocError> for Failure {
     }
 }
 
-// What the system says, as it is told on standard error.
+// What is told on standard error.
 impl fmt::Display for Failure {
     fn fmt<W: fmt::Write>(&self, f: &mut fmt::Formatter<W>) -> fmt::Result {
         match self {
-            Failure::Unfetched(why) => {
-                write!(f, "legalize: standard input cannot be fetched: {why}")
-            }
+            Failure::Unfetched(why) => write!(f, "legalize: {why}"),
             Failure::Unwritten(why) => write!(f, "legalize: {why}"),
+            Failure::Untold(why) => write!(f, "legalize: {why}"),
             Failure::NoMemory => f.write_str("legalize: out of memory"),
         }
     }
@@ -82,11 +90,7 @@ pub struct Ending {
 }
 
 /// Says why a job cannot be read to its end, where a fault ends it; answers the status.
-fn conclude<E: Write>(
-    err: &mut E,
-    job: &[u8],
-    fault: Option<job::Fault>,
-) -> Result<ExitCode, WriteFailure>
+fn conclude<E: Write>(err: &mut E, job: &[u8], fault: Option<job::Fault>) -> io::Result<ExitCode>
     ensures said { OnOk result
         (Appends (E.contents err.old) (E.contents err.new) (complaint_line job.now fault)) }
     ensures status { IfOk result (λ code. exit_status code ≡ status_of fault) }
@@ -94,13 +98,13 @@ fn conclude<E: Write>(
     let Some(fault) = fault else {
         return Ok(ExitCode::SUCCESS);
     };
-    write_line(err, Complaint::about(job, fault))?;
+    err.writeln(Complaint::about(job, fault))?;
     Ok(ExitCode::FAILURE)
 }
 
 /// Answers a job: carries it out, writes its lines, and says why it cannot be read to its end, if
 /// it cannot.
-fn answer<W: Write, E: Write>(
+fn answer<W: Sink, E: Write>(
     said: &mut Vec<u8>,
     out: &mut W,
     err: &mut E,
@@ -111,8 +115,8 @@ fn answer<W: Write, E: Write>(
     ensures said { OnOk result
         (Appends (E.contents err.old) (E.contents err.new) (complaint job.now)) }
     ensures status { IfOk result (λ code. exit_status code ≡ status job.now) }
-    ensures failed { IfErr result
-        (LeavesOut (Some job.now) (W.contents out.old) (W.contents out.new)) }
+    ensures failed { IfErr result (LeavesOut ⊥ (W.failed out.new)
+        (Some job.now) (W.contents out.old) (W.contents out.new)) }
     ensures memory { IfErr result (LacksRoom (Some job.now) said.old) }
 {
     said.clear();
@@ -122,12 +126,12 @@ fn answer<W: Write, E: Write>(
         added,
     } = carry_out(said, job);
     added?;
-    put_all(out, said.as_slice())?;
+    deliver(out, said.as_slice())?;
     Ok(conclude(err, job, fault)?)
 }
 
 /// Fetches a job and answers it.
-fn fetch_and_answer<R: Read, W: Write, E: Write>(
+fn fetch_and_answer<R: Source, W: Sink, E: Write>(
     said: &mut Vec<u8>,
     input: &mut R,
     out: &mut W,
@@ -139,8 +143,8 @@ fn fetch_and_answer<R: Read, W: Write, E: Write>(
         Appends (E.contents err.old) (E.contents err.new) (complaint job))) }
     ensures status { IfOk result (λ code. IfSome (R.remaining input.old) (λ job.
         exit_status code ≡ status job)) }
-    ensures failed { IfErr result
-        (LeavesOut (R.remaining input.old) (W.contents out.old) (W.contents out.new)) }
+    ensures failed { IfErr result (LeavesOut (R.failed input.new) (W.failed out.new)
+        (R.remaining input.old) (W.contents out.old) (W.contents out.new)) }
     ensures memory { IfErr result (LacksRoom (R.remaining input.old) said.old) }
     ensures few { ReadsUpTo MOST_READ (R.remaining input.old) (R.remaining input.new) }
 {
@@ -153,7 +157,7 @@ fn fetch_and_answer<R: Read, W: Write, E: Write>(
 /// cannot be read to its end, or where a call failed. The lines are gathered in `said` before they
 /// are written, and what it held is cleared. At most 65,536 bytes are read, so that of an endless
 /// input no more is fetched than tells that it is too long.
-pub fn legalize<R: Read, W: Write, E: Write>(
+pub fn legalize<R: Source, W: Sink, E: Write>(
     said: &mut Vec<u8>,
     input: &mut R,
     out: &mut W,
@@ -165,8 +169,8 @@ pub fn legalize<R: Read, W: Write, E: Write>(
         Appends (E.contents err.old) (E.contents err.new) (complaint job))) }
     ensures status { IfNone result.failure (IfSome (R.remaining input.old) (λ job.
         exit_status result.status ≡ status job)) }
-    ensures failed { IfSome result.failure
-        (LeavesOut (R.remaining input.old) (W.contents out.old) (W.contents out.new)) }
+    ensures failed { IfSome result.failure (LeavesOut (R.failed input.new) (W.failed out.new)
+        (R.remaining input.old) (W.contents out.old) (W.contents out.new)) }
     ensures memory { IfSome result.failure (LacksRoom (R.remaining input.old) said.old) }
     ensures bad_status { OnSome result.failure (exit_status result.status ≡ 1) }
     ensures few { ReadsUpTo MOST_READ (R.remaining input.old) (R.remaining input.new) }
@@ -177,7 +181,7 @@ pub fn legalize<R: Read, W: Write, E: Write>(
             failure: None,
         },
         Err(why) => {
-            let _ = write_line(err, why);
+            let _ = err.writeln(why);
             Ending {
                 status: ExitCode::FAILURE,
                 failure: Some(why),

@@ -6,10 +6,8 @@ mod complaint;
 mod fault;
 mod legalizing;
 mod run;
-mod streams;
 #[cfg(test)]
 mod tests;
-mod transfers;
 mod whole;
 
 pub use fault::Fault;

@@ -142,13 +142,13 @@ fn streams(rt: HostRuntime) -> Result<(), Fail> {
     // and said then.
     let cases: [(bool, usize, &[u8], &[u8]); 3] = [
         (false, 1_000, LINES, b""),
+        (true, 1_000, b"", b"legalize: the input cannot be read\n"),
         (
-            true,
-            1_000,
-            b"",
-            b"legalize: standard input cannot be fetched: the line is cut\n",
+            false,
+            4,
+            b"0 ok",
+            b"legalize: the output cannot be written\n",
         ),
-        (false, 4, b"0 ok", b"legalize: no room is left\n"),
     ];
     for (fails, room, lines, sentence) in cases {
         let (mut said, mut err) = (Vec::new(rt.alloc()), Vec::new(rt.alloc()));

@@ -11,6 +11,12 @@ pub record Fetched {E : Type 0} (before after : Option (List ℕ)) (failed : Typ
   pub part : OnErr r (failed
       × ((n : ℕ) × (n ≤ length room) × Consumes before after (take n room)))
 
+-- at most so many bytes were read
+pub record ReadsUpTo (most : ℕ) (before after : Option (List ℕ)) : Type 0 where
+  pub read : List ℕ
+  pub consumed : Consumes before after read
+  pub few : length read ≤ most
+
 -- A delivery has put out these bytes. Where it fails, the sink failed, and a first part of them is out.
 pub record Delivered {E : Type 0} (before after : Option (List ℕ)) (failed : Type 0)
     (bytes : List ℕ) (r : Result (Unit {0}) E) : Type 0 where
