@@ -71,8 +71,10 @@ fn fetched(rt: HostRuntime) -> Result<(), Fail> {
         let mut buffer = [b'.'; 8];
         assert!(rt; fetch(&mut input, &mut buffer[..room]) == answer);
         let front = answer.unwrap_or(left);
-        assert_eq!(rt; &buffer[..front], &b"octave"[..front]);
-        assert_eq!(rt; &buffer[front..], &b"........"[front..]);
+        let whole: &[u8] = b"octave";
+        let dots: &[u8] = b"........";
+        assert_eq!(rt; &buffer[..front], &whole[..front]);
+        assert_eq!(rt; &buffer[front..], &dots[front..]);
     }
     Ok(())
 }
