@@ -1,5 +1,5 @@
 -- What is left of a job: after a record it is one record less, whatever the bound on answers.
-use Rattle.std.proofs.Common.{◌≡◌, ℕ, zero, suc, ◌+◌, ◌-◌, ◌<◌, ◌≤◌, cond, eqb, List, [], ◌∷◌, length, take, slice_index, Some, None, Ok, Err, Option, Result, refl, sym, ap, subst, ◌∙◌, add-one, ⊎_elim, length-take, take_all, arith}
+use Rattle.std.proofs.Common.{◌≡◌, ℕ, zero, suc, ◌+◌, ◌-◌, ◌<◌, ◌≤◌, cond, eqb, List, length, take, slice_index, Some, None, Ok, Err, Option, Result, refl, sym, ap, ◌∙◌, add-one, ⊎_elim, length-take, take_all, arith}
 use Rattle.std.proofs.lemmas.Bool.{cases_lt, lt-leb}
 use Rattle.std.specs.Result.{result_map_both}
 use Rattle.measure.specs.declared.name.MeasureName.{MeasureName}
