@@ -58,6 +58,7 @@ impl<M: Measure> Floor<M> {
     ghost use Rattle.floor.specs.State.{measure_of, price_of, rows_of, seats_of, tables_of};
     ghost use Rattle.floor.specs.Tables.{no_tables};
     ghost use Rattle.table.specs.Order.{Ordered};
+    ghost use Rattle.row.specs.declared.TheConstants.{MOST_CELLS};
 
     /// An empty floor with a measure.
     pub fn new(measure: M) -> Floor<M>
@@ -95,6 +96,7 @@ impl<M: Measure> Floor<M> {
         ensures answer { result ≡ (add_row (tables_of self.old) row).answer }
         ensures tables { tables_of self.new ≡ (add_row (tables_of self.old) row).tables }
         ensures same { measure_of self.new ≡ measure_of self.old }
+        ensures limit { MOST_ROWS ≡ 64 }
     {
         self.check_row(&row)?;
         let at = place_of(self.rows.as_slice(), &row);
@@ -148,6 +150,7 @@ impl<M: Measure> Floor<M> {
         ensures least { IfOk result (Least (price_of self.old) (tables_of self.old) cell) }
         ensures dearer { IfOk result
             (CostsMore (price_of self.old) (tables_of self.old) (tables_of self.new)) }
+        ensures limit { MOST_CELLS ≡ 1024 }
     {
         self.check_cell(&cell)?;
         let mut sites = RowSites::new();
@@ -161,7 +164,8 @@ impl<M: Measure> Floor<M> {
     /// What `place` would answer for a cell. Nothing changes.
     #[tactic(auto, using(crate::proofs::Placed::tried))]
     pub fn try_place(&self, cell: Cell) -> Result<Placing, Refusal>
-        ensures { result ≡ (try_place (price_of self.now) (tables_of self.now) cell).answer }
+        ensures answer { result ≡ (try_place (price_of self.now) (tables_of self.now) cell).answer }
+        ensures limit { MOST_CELLS ≡ 1024 }
     {
         self.check_cell(&cell)?;
         self.choose(cell, &mut RowSites::new())

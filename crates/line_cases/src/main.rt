@@ -6,25 +6,27 @@ use lines::{LEAST_BUFFER, Line};
 use std::io;
 use std::io::Write;
 
-// The numbers of the lines that are shown: of 16 bits an index and a place, and of more a number, a
-// line, a site and a cost.
+// The numbers of the lines that are shown: of 16 bits an index and a place, and of more a refusal,
+// a cell's number, a line, a site and a cost.
 #[derive(Clone, Copy)]
 struct Numbers {
     index: u16,
     place: u16,
+    refusal: u32,
     number: u32,
     line: u32,
     site: u32,
     cost: u64,
 }
 
-// The largest numbers.
+// The largest numbers. Those that stand in one line differ, so that a swap shows.
 const LARGEST: Numbers = Numbers {
     index: u16::MAX,
-    place: u16::MAX,
+    place: u16::MAX - 2,
+    refusal: u32::MAX - 1,
     number: u32::MAX,
-    line: u32::MAX,
-    site: u32::MAX,
+    line: u32::MAX - 1,
+    site: u32::MAX - 2,
     cost: u64::MAX,
 };
 
@@ -46,6 +48,7 @@ fn show_kinds(
     let Numbers {
         index,
         place,
+        refusal,
         number,
         line,
         site,
@@ -62,12 +65,12 @@ fn show_kinds(
         },
         Line::Refused {
             index,
-            number,
+            number: refusal,
             name,
         },
         Line::Unreadable {
             index,
-            number,
+            number: refusal,
             place,
         },
         Line::Cell { number, line, site },
@@ -79,12 +82,26 @@ fn show_kinds(
     Ok(())
 }
 
+// Three numbers and a cost: an index or a cell's number, a line or a refusal, and a site or a place.
+fn numbers_of([first, second, third]: [u16; 3], cost: u64) -> Numbers {
+    Numbers {
+        index: first,
+        place: third,
+        refusal: second.into(),
+        number: first.into(),
+        line: second.into(),
+        site: third.into(),
+        cost,
+    }
+}
+
 // Numbers that differ, from a first one on.
 fn numbers_from(first: u16) -> Numbers {
     let [index, place, number] = [first, first / 2, first / 3];
     Numbers {
         index,
         place,
+        refusal: number.into(),
         number: number.into(),
         line: u32::from(first) * 10,
         site: u32::from(first) * 100,
@@ -97,9 +114,22 @@ fn main(rt: HostRuntime) -> io::Result<()> {
     let longest: &[u8] = &[b'~'; LONGEST_NAME];
     let too_long: &[u8] = &[b'~'; LONGEST_NAME + 1];
     show_kinds(&rt, &mut buffer, numbers_from(0), None)?;
+    show_kinds(
+        &rt,
+        &mut buffer,
+        numbers_of([9, 10, 11], 99),
+        Name::new(b"!"),
+    )?;
+    show_kinds(
+        &rt,
+        &mut buffer,
+        numbers_of([100, 999, 1_000], 65_535),
+        Name::new(b"!"),
+    )?;
     show_kinds(&rt, &mut buffer, numbers_from(9), Name::new(b"!"))?;
     show_kinds(&rt, &mut buffer, numbers_from(1_000), Name::new(b"a name"))?;
+    show_kinds(&rt, &mut buffer, LARGEST, None)?;
     show_kinds(&rt, &mut buffer, LARGEST, Name::new(longest))?;
     show_kinds(&rt, &mut buffer, LARGEST, Name::new(too_long))?;
-    show_kinds(&rt, &mut buffer[1..], numbers_from(1), None)
+    show_kinds(&rt, &mut buffer[1..], numbers_of([1, 2, 3], 4), None)
 }

@@ -128,6 +128,7 @@ impl<'a> Line<'a> {
         ensures after { buffer.new ≡ write_buffer (text self.entry) buffer.old }
         ensures fits { IfOk result (λ end. end ≤ LEAST_BUFFER) }
         ensures short { length (text self.entry) ≤ LEAST_BUFFER }
+        ensures limit { LEAST_BUFFER ≡ 320 }
     {
         if buffer.len() < LEAST_BUFFER {
             return Err(ShortBuffer);

@@ -1,5 +1,5 @@
 // From a job's bytes to its listing, from where they are read to where it is written.
-ghost use Rattle.std.specs.Prelude.{IfErr, IfSome, OnOk, vec_capacity};
+ghost use Rattle.std.specs.Prelude.{◌≡◌, IfErr, IfSome, OnOk, vec_capacity};
 ghost use Rattle.std.specs.Io.KnownBytes.{Appends};
 ghost use Rattle.streams.specs.Streams.{ReadsUpTo};
 ghost use Rattle.listing.specs.Lines.{job_lines};
@@ -29,6 +29,7 @@ pub fn list<R: Source, W: Sink>(
         (vec_capacity listing.old) (R.remaining input.old)
         (W.contents output.old) (W.contents output.new)) }
     ensures few { ReadsUpTo MOST_READ (R.remaining input.old) (R.remaining input.new) }
+    ensures limit { MOST_READ ≡ 65536 }
 {
     let mut room = [0; MOST_READ];
     let length = fetch(input, &mut room)?;

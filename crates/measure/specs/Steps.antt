@@ -1,5 +1,5 @@
 -- What one step costs under the two measures, and that both are fair.
-use Rattle.std.specs.Prelude.{◌≡◌, ℕ, ◌+◌, ◌-◌, ◌*◌, ◌<◌, ◌≤◌, pos, ◌-ℤ◌, ◌≤ℤ◌}
+use Rattle.std.specs.Prelude.{◌≡◌, ℕ, ◌+◌, ◌-◌, ◌*◌, ◌^◌, ◌<◌, ◌≤◌, pos, ◌-ℤ◌, ◌≤ℤ◌}
 use Rattle.std.proofs.Common.{ap, ◌∙◌, ⊎_elim, mul-add, add-mul, mul-one, one-mul, mul-le-mul, mul-le-mul_left, mul-zero, arith}
 use Rattle.std.proofs.lemmas.Int.{ints}
 use Rattle.std.proofs.lemmas.Bool.{cases_lt}
@@ -50,6 +50,14 @@ squared_step w e p = ⊎_elim (left_of w e p) (right_of w e p) (cases_lt p w)
 pub squared_step_is : (w e p : ℕ)
     → step_of squared w e p ≡ pos (2 * (e * p) + e) -ℤ pos (2 * (e * w))
 squared_step_is w e p = let step = squared_step w e p in omega (arith, ints)
+
+-- a product of two 16-bit numbers
+pub short_product : (a b : ℕ) → a < 2 ^ 16 → b < 2 ^ 16 → a * b < 2 ^ 32
+short_product a b p q =
+    let a_small : a ≤ 65535 = omega arith in
+    let b_small : b ≤ 65535 = omega arith in
+    let bound : a * b ≤ 65535 * 65535 = mul-le-mul a_small b_small in
+    omega arith
 
 -- a step of plain adds the weight, or takes it away
 pub plain_right : (w e p : ℕ) → w ≤ p → plain w e (p + 1) ≡ plain w e p + e

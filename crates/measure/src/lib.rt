@@ -5,6 +5,7 @@ ghost use Rattle.std.specs.Prelude.{◌≡◌, ◌+◌, ◌*◌, ◌^◌, ◌<�
 ghost use Rattle.measure.specs.Costs.{Fair, InRange, Price, cost_of, in_range, rise_of, step_of};
 ghost use Rattle.measure.specs.Measures.{squared, plain};
 ghost use Rattle.measure.specs.Steps.{squared_fair, plain_fair};
+ghost use Rattle.measure.specs.declared.TheConstants.{LAST_PLACE, MOST_WEIGHT};
 
 mod name;
 
@@ -60,7 +61,8 @@ pub trait Measure {
 
     /// The cost of a place; 0 outside the ranges.
     fn cost(&self, wanted: u32, weight: u32, place: u32) -> u64
-        ensures { result ≡ cost_of (price self.now) wanted weight place }
+        ensures value { result ≡ cost_of (price self.now) wanted weight place }
+        ensures limits { (LAST_PLACE ≡ 65535) × (MOST_WEIGHT ≡ 1000) }
     {
         if is_in_range(wanted, weight, place) {
             self.price_at(Move {
@@ -76,7 +78,8 @@ pub trait Measure {
     /// The cost at the next place less the cost at this one; 0 outside the ranges and at the last
     /// place.
     fn rise(&self, wanted: u32, weight: u32, place: u32) -> i64
-        ensures { result ≡ rise_of (price self.now) wanted weight place }
+        ensures value { result ≡ rise_of (price self.now) wanted weight place }
+        ensures limits { (LAST_PLACE ≡ 65535) × (MOST_WEIGHT ≡ 1000) }
     {
         if place < LAST_PLACE && is_in_range(wanted, weight, place + 1) {
             self.step_at(Step {

@@ -3,6 +3,8 @@ ghost use Rattle.std.specs.Prelude.{◌≡◌, ◌≤◌, length, None};
 ghost use Rattle.row.specs.Records.{cell_fault, row_fault, widths};
 ghost use Rattle.row.specs.Refusals.{next_refusal, cells_refusal, set_refusal};
 ghost use Rattle.row.specs.Checked.{checked};
+ghost use Rattle.row.specs.declared.check.TheConstants.{LAST_LINE, LAST_NUMBER, MOST_WIDTH};
+ghost use Rattle.measure.specs.declared.TheConstants.{LAST_PLACE, MOST_WEIGHT};
 
 use crate::{Cell, Fault, MOST_CELLS, Refusal, Row};
 use measure::{LAST_PLACE, MOST_WEIGHT};
@@ -20,7 +22,8 @@ impl Row {
     /// Refuses a row that is outside its ranges: line up to 4,095, left < right, and right up to
     /// 65,535.
     pub fn check(&self) -> Result<(), Fault>
-        ensures { checked result ≡ row_fault self.now }
+        ensures answer { checked result ≡ row_fault self.now }
+        ensures limits { (LAST_LINE ≡ 4095) × (LAST_PLACE ≡ 65535) }
     {
         if self.line > LAST_LINE || self.left >= self.right || self.right > LAST_PLACE {
             return Err(Fault::Row);
@@ -34,7 +37,9 @@ impl Cell {
     /// 65,535 and wanted line up to 4,095, width 1 to 1,000, weight 1 to 1,000, number up to
     /// 65,535.
     pub fn check(&self) -> Result<(), Fault>
-        ensures { checked result ≡ cell_fault self.now }
+        ensures answer { checked result ≡ cell_fault self.now }
+        ensures places { (LAST_PLACE ≡ 65535) × (LAST_LINE ≡ 4095) }
+        ensures numbers { (MOST_WIDTH ≡ 1000) × (MOST_WEIGHT ≡ 1000) × (LAST_NUMBER ≡ 65535) }
     {
         if self.wanted.site > LAST_PLACE || self.wanted.line > LAST_LINE {
             return Err(Fault::Wanted);

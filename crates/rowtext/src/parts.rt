@@ -2,15 +2,37 @@
 ghost use Rattle.std.specs.Prelude.{◌≡◌};
 ghost use Rattle.std.specs.Iterator.{YieldsFirstRef, item_count};
 ghost use Rattle.std.specs.List.{before_first, after_first};
-ghost use Rattle.rowtext.specs.Parts.{parts_left, words_left};
+ghost use Rattle.rowtext.specs.Parts.{first_mark, marks_of, parts_left, words_left};
 ghost use Rattle.rowtext.specs.Text.{among, lines, words};
 
+// What ends a part: the line end, or a blank.
+#[derive(Clone, Copy)]
+enum Marks {
+    LineEnd,
+    Blanks,
+}
+
+impl Marks {
+    // The place of the first mark. A search of its own for each kind, and not one through a list of
+    // marks for each byte, which takes twice the time.
+    fn first_in(self, bytes: &[u8]) -> Option<usize>
+        ensures { result ≡ first_mark (marks_of self) bytes.now }
+    {
+        match self {
+            Marks::LineEnd => bytes.iter().position(|byte| *byte == b'\n'),
+            Marks::Blanks => bytes
+                .iter()
+                .position(|byte| matches!(*byte, b' ' | b'\t' | b'\r')),
+        }
+    }
+}
+
 // What stands before the first mark, and what stands behind it; all and nothing if there is none.
-fn cut_at_mark<'a>(bytes: &'a [u8], marks: &[u8]) -> (&'a [u8], &'a [u8])
-    ensures before { result.0.now ≡ before_first (among marks.now) bytes.now }
-    ensures after { result.1.now ≡ after_first (among marks.now) bytes.now }
+fn cut_at_mark(bytes: &[u8], marks: Marks) -> (&[u8], &[u8])
+    ensures before { result.0.now ≡ before_first (among (marks_of marks)) bytes.now }
+    ensures after { result.1.now ≡ after_first (among (marks_of marks)) bytes.now }
 {
-    match bytes.iter().position(|byte| marks.contains(byte)) {
+    match marks.first_in(bytes) {
         Some(mark) => (&bytes[..mark], &bytes[mark + 1..]),
         None => (bytes, &[]),
     }
@@ -23,7 +45,7 @@ fn cut_at_mark<'a>(bytes: &'a [u8], marks: &[u8]) -> (&'a [u8], &'a [u8])
 #[derive(Drop)]
 pub(crate) struct Parts<'a> {
     rest: &'a [u8],
-    marks: &'static [u8],
+    marks: Marks,
 }
 
 impl<'a> Parts<'a> {
@@ -33,7 +55,7 @@ impl<'a> Parts<'a> {
     {
         Parts {
             rest: text,
-            marks: b"\n",
+            marks: Marks::LineEnd,
         }
     }
 }
@@ -66,7 +88,7 @@ impl<'a> Words<'a> {
     {
         Words(Parts {
             rest: line,
-            marks: b" \t\r",
+            marks: Marks::Blanks,
         })
     }
 }

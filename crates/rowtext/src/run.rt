@@ -4,6 +4,7 @@ ghost use Rattle.std.specs.Process.{exit_status};
 ghost use Rattle.rowtext.specs.Rooms.{room_of};
 ghost use Rattle.rowtext.specs.Runs.{Answered, Ran, Told, complaint_line, status_of};
 ghost use Rattle.rowtext.specs.Fetching.{Ending};
+ghost use Rattle.rowtext.specs.declared.TheConstants.{CHUNK_BYTES, MOST_BYTES};
 ghost use Rattle.streams.specs.Streams.{Delivered};
 
 use crate::answer::answer;
@@ -64,11 +65,12 @@ pub fn set_row<R: Source, W: Sink, E: Sink>(
     out: &mut W,
     err: &mut E,
 ) -> ExitCode
-    ensures { (ending : Ending)
+    ensures run { (ending : Ending)
         × Ran (room_of room.old) (R.remaining input.old) (R.remaining input.new)
         (W.contents out.old) (W.contents out.new) (R.failed input.new) (W.failed out.new) ending
         × Told (E.contents err.old) (E.contents err.new) (E.failed err.new) ending
         × (exit_status result ≡ status_of ending) }
+    ensures limits { (MOST_BYTES ≡ 1048576) × (CHUNK_BYTES ≡ 4096) }
 {
     match answer_text(room, input, out) {
         Ok(()) => ExitCode::SUCCESS,

@@ -174,6 +174,7 @@ pub fn legalize<R: Source, W: Sink, E: Write>(
     ensures memory { IfSome result.failure (LacksRoom (R.remaining input.old) said.old) }
     ensures bad_status { OnSome result.failure (exit_status result.status ≡ 1) }
     ensures few { ReadsUpTo MOST_READ (R.remaining input.old) (R.remaining input.new) }
+    ensures limit { MOST_READ ≡ 65536 }
 {
     match fetch_and_answer(said, input, out, err) {
         Ok(status) => Ending {

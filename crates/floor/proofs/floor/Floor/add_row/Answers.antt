@@ -35,4 +35,5 @@ returns g c =
       answer = ap (λ o. o.answer) granted;
       tables = ap (λ rs. record { rows = rs; seats = seats }) items ∙ ap (λ o. o.tables) granted;
       same = refl;
+      limit = refl;
     }

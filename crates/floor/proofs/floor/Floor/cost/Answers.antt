@@ -9,7 +9,7 @@ use Rattle.floor.proofs.floor.Floor.cost.Goals as goal
 one : (g : given.Over) (c : goal.After-cost-up g) → Costed (g.M.Measure.price c.args.self.now.measure) c.as_slice-seats.result.now c.loop-seat.seat-index c.cost-across.result c.cost-up.result
 one g c =
     let self = c.args.self.now in
-    costed (g.met.M.Measure.fair self.measure) self.rows.items self.well c.as_slice-seats.ensures c.loop-seat-test.true c.cost-across.ensures c.cost-up.ensures
+    costed (g.met.M.Measure.fair self.measure) self.rows.items self.well c.as_slice-seats.ensures c.loop-seat-test.true c.cost-across.ensures.value c.cost-up.ensures.value
 
 pub overflow_add-sum : goal.overflow_add-sum
 overflow_add-sum g c =
