@@ -14,6 +14,7 @@ mod short_buffer;
 
 pub use appending::append;
 use front::Front;
+pub use job::LONGEST_NAME;
 use job::Name;
 pub use short_buffer::ShortBuffer;
 use std::alloc::AllocError;
