@@ -50,6 +50,7 @@ fn shares_any(row: &Row, rows: &[Row]) -> bool
 impl<M: Measure> Floor<M> {
     ghost use Rattle.std.specs.Prelude.{◌^◌, None, IfOk, IfSome, slice_get};
     ghost use Rattle.row.specs.Checked.{checked};
+    ghost use Rattle.row.specs.Records.{Limits};
     ghost use Rattle.floor.specs.Calls.{add_row, place, try_place, where_is, withdraw};
     ghost use Rattle.floor.specs.Choices.{best_choice, sites_with};
     ghost use Rattle.floor.specs.Refusals.{add_refusal, cell_refusal};
@@ -58,7 +59,6 @@ impl<M: Measure> Floor<M> {
     ghost use Rattle.floor.specs.State.{measure_of, price_of, rows_of, seats_of, tables_of};
     ghost use Rattle.floor.specs.Tables.{no_tables};
     ghost use Rattle.table.specs.Order.{Ordered};
-    ghost use Rattle.row.specs.declared.TheConstants.{MOST_CELLS};
 
     /// An empty floor with a measure.
     pub fn new(measure: M) -> Floor<M>
@@ -96,7 +96,8 @@ impl<M: Measure> Floor<M> {
         ensures answer { result ≡ (add_row (tables_of self.old) row).answer }
         ensures tables { tables_of self.new ≡ (add_row (tables_of self.old) row).tables }
         ensures same { measure_of self.new ≡ measure_of self.old }
-        ensures limit { MOST_ROWS ≡ 64 }
+        ensures limits { Limits }
+        ensures most_rows { MOST_ROWS ≡ 64 }
     {
         self.check_row(&row)?;
         let at = place_of(self.rows.as_slice(), &row);
@@ -150,7 +151,7 @@ impl<M: Measure> Floor<M> {
         ensures least { IfOk result (Least (price_of self.old) (tables_of self.old) cell) }
         ensures dearer { IfOk result
             (CostsMore (price_of self.old) (tables_of self.old) (tables_of self.new)) }
-        ensures limit { MOST_CELLS ≡ 1024 }
+        ensures limits { Limits }
     {
         self.check_cell(&cell)?;
         let mut sites = RowSites::new();
@@ -165,7 +166,7 @@ impl<M: Measure> Floor<M> {
     #[tactic(auto, using(crate::proofs::Placed::tried))]
     pub fn try_place(&self, cell: Cell) -> Result<Placing, Refusal>
         ensures answer { result ≡ (try_place (price_of self.now) (tables_of self.now) cell).answer }
-        ensures limit { MOST_CELLS ≡ 1024 }
+        ensures limits { Limits }
     {
         self.check_cell(&cell)?;
         self.choose(cell, &mut RowSites::new())

@@ -19,8 +19,19 @@ struct Numbers {
     cost: u64,
 }
 
-// The largest numbers. Those that stand in one line differ, so that a swap shows.
+// The largest numbers.
 const LARGEST: Numbers = Numbers {
+    index: u16::MAX,
+    place: u16::MAX,
+    refusal: u32::MAX,
+    number: u32::MAX,
+    line: u32::MAX,
+    site: u32::MAX,
+    cost: u64::MAX,
+};
+
+// The largest numbers that differ where they stand in one line, so that a swap shows.
+const LARGEST_APART: Numbers = Numbers {
     index: u16::MAX,
     place: u16::MAX - 2,
     refusal: u32::MAX - 1,
@@ -128,7 +139,8 @@ fn main(rt: HostRuntime) -> io::Result<()> {
     )?;
     show_kinds(&rt, &mut buffer, numbers_from(9), Name::new(b"!"))?;
     show_kinds(&rt, &mut buffer, numbers_from(1_000), Name::new(b"a name"))?;
-    show_kinds(&rt, &mut buffer, LARGEST, None)?;
+    show_kinds(&rt, &mut buffer, LARGEST_APART, None)?;
+    show_kinds(&rt, &mut buffer, LARGEST_APART, Name::new(longest))?;
     show_kinds(&rt, &mut buffer, LARGEST, Name::new(longest))?;
     show_kinds(&rt, &mut buffer, LARGEST, Name::new(too_long))?;
     show_kinds(&rt, &mut buffer[1..], numbers_of([1, 2, 3], 4), None)

@@ -1,7 +1,8 @@
 -- Cells and rows: the ranges of their fields, and wanted order.
-use Rattle.std.specs.Prelude.{ℕ, ◌+◌, Bool, cond, ◌&&◌, ◌||◌, List, [], ◌∷◌, Some, None, Option, ◌==◌, nat_le, nat_lt}
+use Rattle.std.specs.Prelude.{◌≡◌, ℕ, ◌+◌, Bool, cond, ◌&&◌, ◌||◌, List, [], ◌∷◌, Some, None, Option, ◌==◌, nat_le, nat_lt}
 use Rattle.measure.specs.declared.TheConstants.{LAST_PLACE, MOST_WEIGHT}
 use Rattle.row.specs.declared.check.TheConstants.{LAST_LINE, LAST_NUMBER, MOST_WIDTH}
+use Rattle.row.specs.declared.TheConstants.{MOST_CELLS}
 use Rattle.row.specs.declared.Cell.{Cell}
 use Rattle.row.specs.declared.Row.{Row as RowRecord}
 use Rattle.row.specs.declared.Fault.{Fault}
@@ -15,6 +16,15 @@ check passes failure others = cond passes others (Some failure)
 abbrev pub then : {E : Type 0} → Option E → Option E → Option E
 then (Some failure) others = Some failure
 then None others = others
+
+-- the numbers that the constants of the ranges are
+pub record Limits : Type 0 where
+  pub place : LAST_PLACE ≡ 65535
+  pub line : LAST_LINE ≡ 4095
+  pub width : MOST_WIDTH ≡ 1000
+  pub weight : MOST_WEIGHT ≡ 1000
+  pub number : LAST_NUMBER ≡ 65535
+  pub cells : MOST_CELLS ≡ 1024
 
 -- the first field of a cell that is outside its range, if one is: wanted site up to 65,535 and
 -- wanted line up to 4,095; width 1 to 1,000; weight 1 to 1,000; number up to 65,535

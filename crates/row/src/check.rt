@@ -1,10 +1,8 @@
 // The checks of cells, of rows and of all that `set` is given, in the order of what they refuse.
 ghost use Rattle.std.specs.Prelude.{◌≡◌, ◌≤◌, length, None};
-ghost use Rattle.row.specs.Records.{cell_fault, row_fault, widths};
+ghost use Rattle.row.specs.Records.{Limits, cell_fault, row_fault, widths};
 ghost use Rattle.row.specs.Refusals.{next_refusal, cells_refusal, set_refusal};
 ghost use Rattle.row.specs.Checked.{checked};
-ghost use Rattle.row.specs.declared.check.TheConstants.{LAST_LINE, LAST_NUMBER, MOST_WIDTH};
-ghost use Rattle.measure.specs.declared.TheConstants.{LAST_PLACE, MOST_WEIGHT};
 
 use crate::{Cell, Fault, MOST_CELLS, Refusal, Row};
 use measure::{LAST_PLACE, MOST_WEIGHT};
@@ -23,7 +21,7 @@ impl Row {
     /// 65,535.
     pub fn check(&self) -> Result<(), Fault>
         ensures answer { checked result ≡ row_fault self.now }
-        ensures limits { (LAST_LINE ≡ 4095) × (LAST_PLACE ≡ 65535) }
+        ensures limits { Limits }
     {
         if self.line > LAST_LINE || self.left >= self.right || self.right > LAST_PLACE {
             return Err(Fault::Row);
@@ -38,8 +36,7 @@ impl Cell {
     /// 65,535.
     pub fn check(&self) -> Result<(), Fault>
         ensures answer { checked result ≡ cell_fault self.now }
-        ensures places { (LAST_PLACE ≡ 65535) × (LAST_LINE ≡ 4095) }
-        ensures numbers { (MOST_WIDTH ≡ 1000) × (MOST_WEIGHT ≡ 1000) × (LAST_NUMBER ≡ 65535) }
+        ensures limits { Limits }
     {
         if self.wanted.site > LAST_PLACE || self.wanted.line > LAST_LINE {
             return Err(Fault::Wanted);

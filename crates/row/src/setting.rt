@@ -1,12 +1,11 @@
 // Setting one row: the checks, the clusters, the sites and their cost.
 ghost use Rattle.std.specs.Prelude.{◌≡◌, ◌+◌, ◌≤◌, ◌++◌, length, take, drop, IfOk};
-ghost use Rattle.row.specs.Records.{widths};
+ghost use Rattle.row.specs.Records.{Limits, widths};
 ghost use Rattle.row.specs.Settings.{Cheapest};
 ghost use Rattle.row.specs.Costs.{sites_cost};
 ghost use Rattle.row.specs.Sites.{abut, row_sites};
 ghost use Rattle.row.specs.Stack.{InPlaces, Spans, part};
 ghost use Rattle.row.specs.Task.{set_answer, set_sites};
-ghost use Rattle.row.specs.declared.TheConstants.{MOST_CELLS};
 
 use crate::check::check;
 use crate::cluster::{Cluster, Clusters};
@@ -131,7 +130,7 @@ pub fn set<M: Measure>(
     ensures after { sites.new ≡ set_sites (M.price measure.now) row cells.now sites.old }
     ensures cheapest { IfOk result (λ cost. Cheapest (M.price measure.now) row cells.now sites.new
         × (cost ≡ sites_cost (M.price measure.now) cells.now sites.new)) }
-    ensures limit { MOST_CELLS ≡ 1024 }
+    ensures limits { Limits }
 {
     check(row, cells, sites.len())?;
     let task = Task {

@@ -35,5 +35,6 @@ returns g c =
       answer = ap (λ o. o.answer) granted;
       tables = ap (λ rs. record { rows = rs; seats = seats }) items ∙ ap (λ o. o.tables) granted;
       same = refl;
-      limit = refl;
+      limits = record { place = refl; line = refl; width = refl; weight = refl; number = refl; cells = refl };
+      most_rows = refl;
     }
