@@ -14,7 +14,7 @@ enum Marks {
 
 impl Marks {
     // The place of the first mark. A search of its own for each kind, and not one that goes through a
-    // list of marks at each byte, which takes one and a half times the work, and four times on blanks.
+    // list of marks at each byte, which takes two to three times as long on blank lines.
     fn first_in(self, bytes: &[u8]) -> Option<usize>
         ensures { result ≡ first_mark (marks_of self) bytes.now }
     {
